@@ -207,6 +207,11 @@ fn tell_all<I: Image>(
 /// Tells the certificate of a disc in an image, whatever kind of layout its lists name. The power is off, and is off afterwards;
 /// no byte of the image changes.
 ///
+/// # Clauses
+///
+/// - `rule` (`AreCertificate`, `LooksOn`, `FailsLooking`), `off`: the lines are the certificate of the disc, where its bytes are
+///   known; or the image counted a failure. The power is off, as it was.
+///
 /// # Answers
 ///
 /// - `Ok`: nothing failed. Then: the lines are the certificate; each byte of the image is as it was, and the power is off.

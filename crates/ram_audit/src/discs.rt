@@ -38,6 +38,10 @@ pub enum Checked {
 
 /// Tells the certificate of the disc in an image, which is handed back.
 ///
+/// # Clauses
+///
+/// - its one clause (`AuditRule`): the same of an image, which is handed back; or it is no disc's.
+///
 /// # Answers
 ///
 /// The image is handed back with each byte as it was.
@@ -76,6 +80,11 @@ pub fn audit_disc<I: Image>(rooms: &mut AuditRooms, medium: MediumRooms, image: 
 
 /// Compares all that a source has left with the text of the certificate of the disc in an image, which is handed back. The source
 /// is asked once the image was read.
+///
+/// # Clauses
+///
+/// - its one clause (`CheckRule`): `Yes` and `No`: what the source had left is the text of the certificate, or first differs from
+///   it in that line. The source is asked once the image was read.
 ///
 /// # Answers
 ///

@@ -25,6 +25,11 @@ impl Lines {
 
     /// No lines, and the room of the text of any disc.
     ///
+    /// # Clauses
+    ///
+    /// - `left`, `empty`: it asks for at most `TEXT_ROOM` bytes of a budget that has as many, and gives no lines; a refusal is
+    ///   the system's, by its type.
+    ///
     /// # Answers
     ///
     /// - `Ok`: memory for the text of any disc was given. Then: there are no lines. (`AreLines`)
@@ -41,6 +46,10 @@ impl Lines {
     }
 
     /// Drops all lines.
+    ///
+    /// # Clauses
+    ///
+    /// - its one clause: no lines.
     pub fn clear(&mut self)
         ensures { AreLines self.new [] }
     {
@@ -49,6 +58,12 @@ impl Lines {
     }
 
     /// Adds a line.
+    ///
+    /// # Clauses
+    ///
+    /// - `lines`: whatever lines there were (`AreLines`: text and number), there is this one more behind them.
+    /// - `len`: the text grows by the bytes that such a line has at most (`most_bytes`). The call asks that these fit into the
+    ///   room.
     pub fn push(&mut self, line: CertificateLine)
         requires { bytes_of self.old + most_bytes line ≤ TEXT_ROOM }
         ensures lines { (told : List Told) → AreLines self.old told → AreLines self.new (told ++ line ∷ []) }
@@ -59,6 +74,10 @@ impl Lines {
     }
 
     /// Adds the last line, which counts those before it.
+    ///
+    /// # Clauses
+    ///
+    /// - its one clause: the last line is behind them, which counts those before it (`closed`).
     pub fn close(&mut self)
         requires { bytes_of self.old + 25 ≤ TEXT_ROOM }
         ensures { (told : List Told) → AreLines self.old told → AreLines self.new (closed told) }
@@ -67,6 +86,10 @@ impl Lines {
     }
 
     /// Their text.
+    ///
+    /// # Clauses
+    ///
+    /// - its one clause: the text.
     pub fn text(&self) -> &[u8]
         ensures { result.now ≡ self.now.text.items }
     {

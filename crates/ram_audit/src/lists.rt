@@ -28,6 +28,10 @@ fn line_of(entry: SdlEntry) -> CertificateLine
 }
 
 /// Adds the lines of the entries of a primary list.
+///
+/// # Clauses
+///
+/// - `lines`, `len`: the lines of all entries of a primary list, and of a secondary one, are behind the others, in their order.
 pub fn tell_primary(lines: &mut Lines, entries: &[PdlEntry])
     requires { bytes_of lines.old + 18 * length entries.now ≤ TEXT_ROOM }
     ensures lines { (told : List Told) → AreLines lines.old told
@@ -44,6 +48,10 @@ pub fn tell_primary(lines: &mut Lines, entries: &[PdlEntry])
 }
 
 /// Adds the lines of the entries of a secondary list.
+///
+/// # Clauses
+///
+/// - `lines`, `len`: the lines of all entries of a primary list, and of a secondary one, are behind the others, in their order.
 pub fn tell_secondary(lines: &mut Lines, entries: &[SdlEntry])
     requires { bytes_of lines.old + 27 * length entries.now ≤ TEXT_ROOM }
     ensures lines { (told : List Told) → AreLines lines.old told

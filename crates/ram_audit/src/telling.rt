@@ -244,6 +244,10 @@ pub fn put_line(text: &mut Vec<u8>, line: CertificateLine)
 }
 
 /// Puts the answer of a check that found a difference in this line, in place of what the text had.
+///
+/// # Clauses
+///
+/// - its one clause: the answer of a check that found a difference.
 pub fn put_difference(text: &mut Vec<u8>, line: u64)
     requires { 24 ≤ vec_capacity text.old }
     ensures { text.new.items ≡ difference_text line }

@@ -19,6 +19,11 @@ impl<D: Disc> Cached<D> {
     ghost use Rattle.ram_cache.specs.Rooms.{pending_of};
 
     /// A drive over this disc, with its cache off and nothing pending. What is pending in the blocks that it is given is dropped.
+    ///
+    /// # Clauses
+    ///
+    /// - `disc`, `pending`, `off`: the disc, with the cache off and nothing pending, whatever was pending in the rooms that it is
+    ///   given.
     pub fn new(disc: D, pending: PendingBlocks) -> Cached<D>
         ensures disc { result.disc ≡ disc }
         ensures pending { pending_of result.pending ≡ [] }
@@ -34,6 +39,10 @@ impl<D: Disc> Cached<D> {
     }
 
     /// The disc below, and the rooms of the pending blocks, none of which reaches the disc any more.
+    ///
+    /// # Clauses
+    ///
+    /// - its one clause: the disc, and the rooms; what is pending is lost.
     pub fn into_parts(self) -> (D, PendingBlocks)
         ensures { result.0 ≡ self.disc }
     {
@@ -42,6 +51,10 @@ impl<D: Disc> Cached<D> {
     }
 
     /// How many blocks are pending.
+    ///
+    /// # Clauses
+    ///
+    /// - its one clause: how many blocks are pending.
     pub fn pending(&self) -> u32
         ensures { result ≡ length (pending_of self.now.pending) }
     {

@@ -59,6 +59,11 @@ impl<D: Disc> Cached<D> {
     ghost use Rattle.ram_cache.specs.Flushes.{CanFlush, IsReady, EnterRule, FlushesAt, FlushContents, FlushesDue};
 
     /// How a call begins: with the power on the pending blocks that the disc no longer has are dropped.
+    ///
+    /// # Clauses
+    ///
+    /// - `rule` (`EnterRule`), `step`: the power is off; or the disc is not formatted, and nothing is pending now; or it is, with
+    ///   its sectors, and the pending blocks that it has not are dropped. That changes nothing of what the drive stands for.
     pub(crate) fn enter(&mut self) -> Entered
         ensures rule { EnterRule (shown_by D.Sectors self.old) (shown_by D.Sectors self.new) result }
         ensures same_disc { self.new.disc ≡ self.old.disc }
@@ -103,6 +108,11 @@ impl<D: Disc> Cached<D> {
     }
 
     /// Writes the pending block at this place to the disc, which has k sectors and all pending blocks.
+    ///
+    /// # Clauses
+    ///
+    /// - `rule` (`FlushesAt`), `step` (`FlushContents`): the pending block at a place is written to the disc, and is gone where
+    ///   that was good; what is shown stays, and a stopped flush leaves two candidates of the same values.
     fn flush(&mut self, k: usize, sectors: u32) -> WriteOut
         requires there { k < length (pending_of self.old.pending) }
         requires can { CanFlush (shown_by D.Sectors self.old) }
@@ -130,6 +140,12 @@ impl<D: Disc> Cached<D> {
 
     /// Writes pending blocks to the disc, the oldest first, up to the first that is refused, and n at most: those that are
     /// among `count` blocks from block `first` on, or those that are not.
+    ///
+    /// # Clauses
+    ///
+    /// - `rule` (`FlushesDue`), `step`: the pending blocks that are among some numbers, or not among them, are flushed in the
+    ///   order in which they are pending, up to a given number of them and up to the first that is refused or stopped. It serves
+    ///   `synchronize`, writes through the cache, and writes for which room is needed.
     pub(crate) fn flush_due(
         &mut self,
         among: bool,

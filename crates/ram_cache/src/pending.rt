@@ -46,6 +46,11 @@ impl PendingBlocks {
 
     /// No pending blocks, and the rooms of as many as there may be.
     ///
+    /// # Clauses
+    ///
+    /// - `left`, `empty`: it asks for at most `PENDING_MEMORY` bytes of a budget that has as many, and gives the rooms, and
+    ///   nothing pending; a refusal is the system's, by its type.
+    ///
     /// # Answers
     ///
     /// - `Ok`: memory for 32 blocks was given. Then: none is pending. (`pending_of`)
@@ -139,6 +144,11 @@ impl PendingBlocks {
     }
 
     /// Exchanges the room that is furthest behind, where a block that is dropped leaves its bytes, for one of the disc's.
+    ///
+    /// # Clauses
+    ///
+    /// - `pending`, `same`: the last of the rooms, while it has no pending block, is exchanged for one of the disc's; what is
+    ///   pending and what the disc shows stay.
     pub(crate) fn exchange_room<D: Disc>(&mut self, disc: &mut D)
         requires room { length (pending_of self.old) < 32 }
         ensures pending { pending_of self.new ≡ pending_of self.old }
@@ -231,6 +241,11 @@ impl PendingBlocks {
     }
 
     /// Puts the parts of a request over the pending blocks that it covers, and makes the `staged` blocks to come pending.
+    ///
+    /// # Clauses
+    ///
+    /// - its one clause: the request is put over the covered blocks that are pending, in their places, and the staged blocks are
+    ///   pending behind them.
     pub(crate) fn take_in(&mut self, request: Request, staged: usize, from: &[u8])
         requires whole { length from.now ≡ 2048 * request.n }
         requires room { length (pending_of self.old) + staged ≤ 32 }

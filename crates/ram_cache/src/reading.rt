@@ -45,6 +45,11 @@ impl<D: Disc> Cached<D> {
     }
 
     /// Reads the part that a request has of the block after `k` others, from the cache where that block is pending.
+    ///
+    /// # Clauses
+    ///
+    /// - `Reading.antt`: a pending block comes from the cache, another by a read of the disc; the bytes are those of the shown
+    ///   disc.
     fn read_part(&mut self, request: Request, k: u32, into: &mut [u8]) -> ReadOut
         requires inside { IsInRange (D.shows self.old.disc) request.lba request.n }
         requires covered { k < blocks_covered request.lba request.n }
@@ -69,6 +74,11 @@ impl<D: Disc> Cached<D> {
     }
 
     /// Reads all parts of a request, in order.
+    ///
+    /// # Clauses
+    ///
+    /// - `Reading.antt`: a pending block comes from the cache, another by a read of the disc; the bytes are those of the shown
+    ///   disc.
     fn read_parts(&mut self, request: Request, into: &mut [u8]) -> ReadOut
         requires inside { IsInRange (D.shows self.old.disc) request.lba request.n }
         requires whole { length into.old ≡ 2048 * request.n }

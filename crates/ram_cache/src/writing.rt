@@ -45,6 +45,10 @@ impl<D: Disc> Cached<D> {
 
     /// Writes a request through the cache, to a disc that has n sectors: the covered blocks that are pending go to the disc
     /// first.
+    ///
+    /// # Clauses
+    ///
+    /// - `CachedCauseOf`, `ThroughCauseOf`: a write into the cache, and one through it.
     fn write_over(&mut self, request: Request, sectors: u32, from: &[u8]) -> WriteOut
         requires few { request.n ≤ TRANSFER_LIMIT }
         requires whole { length from.now ≡ 2048 * request.n }
@@ -114,6 +118,11 @@ impl<D: Disc> Cached<D> {
     }
 
     /// Stages a block of a request that is not pending, behind `staged` others. Returns the new count.
+    ///
+    /// # Clauses
+    ///
+    /// - `rule` (`StagesNext`, `StagesAll`), `step`: the covered blocks that are not pending are made in free rooms, their rests
+    ///   read; what is pending stays meanwhile, so where a rest cannot be read the write has done nothing but flush.
     fn stage_block(&mut self, part: Part, staged: usize, from: &[u8]) -> Result<usize, WriteOut>
         requires covered { IsCovered part.request.lba part.request.n part.block }
         requires inside { IsInRange (D.shows self.old.disc) part.request.lba part.request.n }
@@ -140,6 +149,11 @@ impl<D: Disc> Cached<D> {
     }
 
     /// Makes the block after `k` others of a request one of those to come, if it is not pending.
+    ///
+    /// # Clauses
+    ///
+    /// - `rule` (`StagesNext`, `StagesAll`), `step`: the covered blocks that are not pending are made in free rooms, their rests
+    ///   read; what is pending stays meanwhile, so where a rest cannot be read the write has done nothing but flush.
     fn stage_next(
         &mut self,
         request: Request,
@@ -171,6 +185,11 @@ impl<D: Disc> Cached<D> {
     }
 
     /// Makes all blocks of a request that are not pending ones to come. How many these are.
+    ///
+    /// # Clauses
+    ///
+    /// - `rule` (`StagesNext`, `StagesAll`), `step`: the covered blocks that are not pending are made in free rooms, their rests
+    ///   read; what is pending stays meanwhile, so where a rest cannot be read the write has done nothing but flush.
     fn stage_all(&mut self, request: Request, from: &[u8]) -> Result<usize, WriteOut>
         requires inside { IsInRange (D.shows self.old.disc) request.lba request.n }
         requires room { HasRoomForBlocks (pending_of self.old.pending) request.lba request.n }
@@ -214,6 +233,10 @@ impl<D: Disc> Cached<D> {
 
     /// Writes a request of few blocks into the cache, of a disc that has n sectors: the oldest pending blocks that it does not
     /// cover leave first, as many as have to.
+    ///
+    /// # Clauses
+    ///
+    /// - `CachedCauseOf`, `ThroughCauseOf`: a write into the cache, and one through it.
     fn write_into(&mut self, request: Request, sectors: u32, from: &[u8]) -> WriteOut
         requires few { blocks_covered request.lba request.n ≤ CACHED_AT_ONCE }
         requires whole { length from.now ≡ 2048 * request.n }

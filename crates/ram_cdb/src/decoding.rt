@@ -21,6 +21,10 @@ use ram_sense::codes::{
 /// What a command block asks for, with the command's data in `payload`, or the first refusal that applies: 5/20/00 for an
 /// unknown operation code, and then those of [`decode_as`]. (After INCITS MMC and SPC.)
 ///
+/// # Clauses
+///
+/// - `exact`: `decoded`: an unknown code is 5/20/00; else as `decode_as`.
+///
 /// # Answers
 ///
 /// `refusals_have_their_causes` proves of each refusal that it is the answer exactly when it applies and none before it does.
@@ -56,6 +60,12 @@ pub fn decode(cdb: &Cdb, payload: &[u8]) -> Result<Command, Sense>
 /// The same for a command block whose operation is known: 5/24/00 where it is too short or has a field that is not taken,
 /// then 5/39/00 where saved mode pages are asked for, then 5/1A/00 where the data have another length than the command
 /// takes, then 5/26/00 where the parameter list of FORMAT UNIT is not taken. (After INCITS MMC and SPC.)
+///
+/// # Clauses
+///
+/// - `exact`: `decoded_as`: the first of the reasons in `refusals` that applies, in their order; else the command of `meaning`,
+///   the table of fields. So every command block and all data have just one answer, and each answer comes exactly where the
+///   definition says.
 ///
 /// # Answers
 ///

@@ -8,6 +8,10 @@ ghost use Rattle.ram_cdb.specs.Refusals.{HasBadField, AsksForSaved, HasBadLength
 
 /// Each reason to refuse a command is the answer exactly where it applies and none before it does; and a command is asked
 /// for exactly where none applies.
+///
+/// # Clauses
+///
+/// - each reason to refuse, with exactly when it is the answer, as a law about `decoded`.
 pub fn refusals_have_their_causes()
     ensures unknown { (cdb payload : List ℕ)
         → (decoded cdb payload ≡ Err (sense 0x5 0x20 0x00)) ↔ (operation_of cdb ≡ None) }

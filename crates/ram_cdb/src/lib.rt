@@ -19,11 +19,19 @@ use ram_bytes::{Cdb, SECTOR_BYTES, get_u16, get_u32};
 pub const FORMAT_LIST_BYTES: usize = 12;
 
 /// The number that contracts share with the code.
+///
+/// # Clauses
+///
+/// - the parameter list of FORMAT UNIT has 12 bytes. The law of the same name in `model_commands` has the other two numbers.
 pub fn limits_are_these()
     ensures format { FORMAT_LIST_BYTES ≡ 12 }
 {}
 
 /// Whether the drive knows the command, by its operation code alone.
+///
+/// # Clauses
+///
+/// - exactly whether the table has the operation code.
 ///
 /// # Answers
 ///
@@ -36,6 +44,12 @@ pub fn known(cdb: &Cdb) -> bool
 
 /// How many bytes of data the command takes, at most [`DATA_LIMIT`]. 0 where the operation code is unknown, the
 /// command block is too short, or more than [`TRANSFER_LIMIT`] sectors would be written.
+///
+/// # Clauses
+///
+/// - `exact`: how many bytes of data go with the command, by the table and its fields; none where the code is unknown, the block
+///   is too short, or more than 1,024 sectors are named.
+/// - `bound`: at most 2,097,152 bytes.
 pub fn out_length(cdb: &Cdb) -> usize
     ensures exact { result ≡ out_length_of cdb.now }
     ensures bound { result ≤ DATA_LIMIT }
@@ -50,6 +64,10 @@ pub fn out_length(cdb: &Cdb) -> usize
 }
 
 /// The command with this operation code.
+///
+/// # Clauses
+///
+/// - the command with this operation code, and none where the table has none.
 ///
 /// # Answers
 ///
@@ -87,6 +105,10 @@ pub fn operation(code: u8) -> Option<Operation>
 }
 
 /// How many bytes a command block of this command has at least.
+///
+/// # Clauses
+///
+/// - how many bytes a command block of this command has at least, by the table.
 pub fn command_bytes(operation: Operation) -> usize
     ensures { result ≡ (command operation).bytes }
 {
@@ -112,6 +134,12 @@ pub fn command_bytes(operation: Operation) -> usize
 }
 
 /// How many bytes of data the command takes, by a command block that is long enough.
+///
+/// # Clauses
+///
+/// - `exact`: how many bytes of data go with the command, by the table and its fields; none where the code is unknown, the block
+///   is too short, or more than 1,024 sectors are named.
+/// - `bound`: at most 2,097,152 bytes.
 pub fn data_bytes(operation: Operation, cdb: &[u8]) -> usize
     requires { (command operation).bytes ≤ length cdb.now }
     ensures exact { result ≡ data_length (command operation).taken cdb.now }

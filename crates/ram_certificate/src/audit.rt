@@ -93,6 +93,12 @@ fn check_here<I: Image, S: Source, K: Sink>(
 
 /// Tells what the image of this name holds. The image is closed on every way out.
 ///
+/// # Clauses
+///
+/// - `tells`: the above, or no image was opened (`TellsOf`).
+/// - `asks`: the opener was asked for this name, once.
+/// - `causes`: the count that the status tells of rose, and no other (`StatusCounts`).
+///
 /// # Answers
 ///
 /// - `Done`: the certificate of the image is written. (`AuditAnswers`)
@@ -131,6 +137,12 @@ pub fn audit_image<K: Sink, O: Opener>(
 }
 
 /// Checks what a source has left against the image of this name. The image is closed on every way out.
+///
+/// # Clauses
+///
+/// - `tells`: the above, or no image was opened (`TellsOf`).
+/// - `asks`: the opener was asked for this name, once.
+/// - `causes`: the count that the status tells of rose, and no other (`StatusCounts`).
 ///
 /// # Answers
 ///

@@ -27,6 +27,11 @@ pub struct CertificateRooms {
 impl CertificateRooms {
     /// The rooms for a certificate.
     ///
+    /// # Clauses
+    ///
+    /// - `left`, `ready`: it asks for at most `CERTIFICATE_MEMORY` bytes of a budget that has as many. A refusal is the system's,
+    ///   by its type.
+    ///
     /// # Answers
     ///
     /// - `Ok`: the memory of an audit, and room for the answer of a check. (`AreReadyToTell`)

@@ -28,6 +28,11 @@ cdb 041100000000 hex 00000008000005a000000800
 pub const SCRIPT_ROOM: usize = HEAD.len() + STEPS as usize * LONGEST_STEP;
 
 /// Draws the script of this number into the room, in place of what it held. The same number gives the same script.
+///
+/// # Clauses
+///
+/// - `text`: Where the room is there, the script is exactly `script_from seed`, whatever was in the room before.
+/// - `room`: There is no less room afterwards, so the next script is drawn into it too.
 pub fn draw_script(script: &mut Vec<u8>, seed: u64)
     requires room { SCRIPT_ROOM ≤ vec_capacity script.old }
     ensures text { script.new.items ≡ script_from seed }

@@ -15,6 +15,10 @@ use rand_pcg::Pcg32;
 pub const LONGEST_STEP: usize = 34;
 
 /// Adds n steps.
+///
+/// # Clauses
+///
+/// - Where there is room for this many of the longest step, the script grew by the text of this many steps.
 pub fn add_steps(script: &mut Vec<u8>, words: &mut Pcg32, count: u32)
     requires room { length script.old.items + LONGEST_STEP * count ≤ vec_capacity script.old }
     ensures text { script.new.items ≡ script.old.items ++ steps_text count words.old }

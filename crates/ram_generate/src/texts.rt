@@ -7,6 +7,11 @@ use itoa::Buffer;
 use ram_bytes::encode_hex;
 
 /// Adds words.
+///
+/// # Clauses
+///
+/// - `items`, `len`, `room`: Where there is room for them, a text grew by these bytes, or by a number in decimal digits, for
+///   which there is room for twenty, and there is no less room in all. `ram_run` writes its summary with them.
 pub fn add(text: &mut Vec<u8>, words: &[u8])
     requires room { length text.old.items + length words.now ≤ vec_capacity text.old }
     ensures items { text.new.items ≡ text.old.items ++ words.now }
@@ -20,6 +25,11 @@ pub fn add(text: &mut Vec<u8>, words: &[u8])
 }
 
 /// Adds a number in decimal digits, of which there are at most twenty.
+///
+/// # Clauses
+///
+/// - `items`, `len`, `room`: Where there is room for them, a text grew by these bytes, or by a number in decimal digits, for
+///   which there is room for twenty, and there is no less room in all. `ram_run` writes its summary with them.
 pub fn add_number(text: &mut Vec<u8>, number: u64)
     requires room { length text.old.items + 20 ≤ vec_capacity text.old }
     ensures items { text.new.items ≡ text.old.items ++ decimal number }

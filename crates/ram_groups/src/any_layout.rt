@@ -25,6 +25,12 @@ pub enum AnyLayout {
 impl AnyLayout {
     /// The layout of a structure with n supplementary spares, of the kind of the geometry.
     ///
+    /// # Clauses
+    ///
+    /// - the layout is of the kind of the geometry, and that of the structure and of the size of the supplementary spare area.
+    ///   `rebuild` asks for a layout of that kind with room, and takes no memory.
+    /// - `left`: they ask for at most `LAYOUT_MEMORY` bytes of a budget that has as many.
+    ///
     /// # Answers
     ///
     /// - `Ok`, `Slip`: the geometry has one group of spares: the layout of the structure and of the size of the supplementary
@@ -67,6 +73,11 @@ impl AnyLayout {
 
     /// Makes it the layout of a structure with n supplementary spares. It is of the kind of the geometry. It takes no
     /// memory.
+    ///
+    /// # Clauses
+    ///
+    /// - the layout is of the kind of the geometry, and that of the structure and of the size of the supplementary spare area.
+    ///   `rebuild` asks for a layout of that kind with room, and takes no memory.
     pub fn rebuild(&mut self, geometry: &Geometry, dds: &DdsPdl, ssa: u32)
         requires valid { IsValidPdl geometry.now (dds_of dds.now) }
         requires area { IsValidOnSome geometry.now ssa }
@@ -80,6 +91,10 @@ impl AnyLayout {
     }
 
     /// Changes the size of the supplementary spare area, which one group alone has. It takes no memory.
+    ///
+    /// # Clauses
+    ///
+    /// - the number of logical blocks is that of the new size, and nothing else changes; with a group in each zone nothing does.
     pub fn set_ssa(&mut self, ssa: u32)
         requires { MayHave ssa self.old }
         ensures { self.new ≡ with_ssa ssa self.old }

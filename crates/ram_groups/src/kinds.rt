@@ -24,6 +24,10 @@ fn smallest(kind: LayoutKind) -> Geometry
 
 /// A layout of this kind, which has room for any disc: that of a small one, with this structure, which has no entries.
 ///
+/// # Clauses
+///
+/// - a layout of this kind, with room for any disc, before there is one.
+///
 /// # Answers
 ///
 /// - `Ok`, `Slip`, `Zones`: a layout of this kind, with room for that of any disc. (`IsOfKind`)

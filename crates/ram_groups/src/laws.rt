@@ -11,6 +11,10 @@ ghost use Rattle.ram_groups.specs.declared.any_layout.AnyLayout.{AnyLayout};
 ghost use Rattle.ram_groups.specs.Layouts.{IsLayoutOf, IsOfKind, MayHave, layout_pools, layout_blocks, with_ssa};
 
 /// The pools of a table of zones are those of its disc.
+///
+/// # Clauses
+///
+/// - the pools of a table of zones are those that `model_places` gives to the disc.
 pub fn a_table_of_zones_has_the_pools_of_its_disc()
     ensures { (shape : Shape) (dds : Dds) (ssa : ℕ) (table : ZoneTable) → shape.layout ≡ EachZone
         → IsValidOnSome shape ssa → IsZoningOf shape dds table
@@ -19,6 +23,12 @@ pub fn a_table_of_zones_has_the_pools_of_its_disc()
 
 /// The pools of a layout are those of its disc, and its data blocks the disc's. It is of the disc's kind. It may have each valid
 /// size of the supplementary spare area, and is then the layout with that size.
+///
+/// # Clauses
+///
+/// - the same of a layout of either kind (`pools`); its data blocks are those of the disc (`blocks`), it is of the disc's kind
+///   (`kind`), has room for each disc of the geometry (`room`), may have each valid supplementary spare area (`may`), and is then
+///   the layout with that (`resized`).
 pub fn a_layout_has_the_pools_of_its_disc()
     ensures pools { (shape : Shape) (dds : Dds) (ssa : ℕ) (layout : AnyLayout)
         → IsValidPdl shape dds → IsValidOnSome shape ssa → IsLayoutOf shape dds ssa layout

@@ -49,6 +49,13 @@ impl Model for ZoneLayout {
 impl ZoneLayout {
     /// The layout of a structure.
     ///
+    /// # Clauses
+    ///
+    /// - the table is that of the structure: its blocks are the data blocks that are not slipped, it knows how many of them come
+    ///   before each zone, and it has room for as many runs as a disc of the geometry may have. `rebuild` asks for that room, so
+    ///   it takes no memory.
+    /// - `left`: they ask for at most `LAYOUT_MEMORY` bytes of a budget that has as many.
+    ///
     /// # Answers
     ///
     /// - `Ok`: the table of the structure, with room for that of any disc. (`IsZoningOf`)
@@ -76,6 +83,12 @@ impl ZoneLayout {
     }
 
     /// Makes it the layout of a structure. It takes no memory.
+    ///
+    /// # Clauses
+    ///
+    /// - the table is that of the structure: its blocks are the data blocks that are not slipped, it knows how many of them come
+    ///   before each zone, and it has room for as many runs as a disc of the geometry may have. `rebuild` asks for that room, so
+    ///   it takes no memory.
     pub fn rebuild(&mut self, geometry: &Geometry, dds: &DdsPdl)
         requires valid { IsValidPdl geometry.now (dds_of dds.now) }
         requires zones { geometry.now.layout ≡ EachZone }

@@ -7,6 +7,10 @@ use ram_zones::{Geometry, LayoutKind};
 
 /// The geometry of these numbers with a layout of this kind, where that is within its limits.
 ///
+/// # Clauses
+///
+/// - the geometry of three numbers with a layout of this kind; none exactly where that is not lawful.
+///
 /// # Answers
 ///
 /// - `Some`, `None`: the geometry of these numbers, with a layout of this kind; `None` exactly when it is not lawful. (clause)

@@ -148,6 +148,10 @@ impl<I: Image> ImageMedium<I> {
     }
 
     /// The image, as the medium leaves it, and the memory.
+    ///
+    /// # Clauses
+    ///
+    /// - `image`, `count`, `cells`: the image of the medium, with the count and the cells that it showed; and its memory.
     pub fn into_parts(self) -> (I, MediumRooms)
         ensures image { result.0 ≡ self.image }
         ensures count { I.faults result.0 ≡ (world_of self).faults }
@@ -286,6 +290,12 @@ impl<I: Image> ImageMedium<I> {
     /// Whether a block has whole bytes, by its state byte alone. It is no use: the power may be off, and nothing is counted
     /// but where the image failed.
     ///
+    /// # Clauses
+    ///
+    /// - `rule` (`HasBytesRule`, `IsDeadRule`), `bytes`, `same_shape`: whether a block has whole bytes, and whether it is dead,
+    ///   by its state byte alone, with the power on or off. It is no use; no byte changes, and nothing is counted but a failure
+    ///   of the image.
+    ///
     /// # Answers
     ///
     /// No byte of the image changes, and no use is counted.
@@ -303,6 +313,12 @@ impl<I: Image> ImageMedium<I> {
     }
 
     /// Whether a block is dead, by its state byte alone. It is no use either.
+    ///
+    /// # Clauses
+    ///
+    /// - `rule` (`HasBytesRule`, `IsDeadRule`), `bytes`, `same_shape`: whether a block has whole bytes, and whether it is dead,
+    ///   by its state byte alone, with the power on or off. It is no use; no byte changes, and nothing is counted but a failure
+    ///   of the image.
     ///
     /// # Answers
     ///
@@ -436,10 +452,20 @@ impl<I: Image> Medium for ImageMedium<I> {
         self.powered
     }
 
+    /// # Clauses
+    ///
+    /// - `rule`, `event`: `Done`: the caller's bytes are the block's data in the image, whose state byte is that of a good block.
+    ///   `read` leaves the caller's block as it was on any other answer; of the bytes that `read_into` was lent nothing is said
+    ///   then.
     fn read(&mut self, block: u32, into: &mut Block) -> ReadEnd {
         self.read_block(block, into)
     }
 
+    /// # Clauses
+    ///
+    /// - `rule`, `event`: `Done`: the caller's bytes are the block's data in the image, whose state byte is that of a good block.
+    ///   `read` leaves the caller's block as it was on any other answer; of the bytes that `read_into` was lent nothing is said
+    ///   then.
     fn read_into(&mut self, block: u32, into: &mut [u8]) -> ReadEnd {
         self.read_bytes(block, into)
     }
@@ -491,6 +517,11 @@ impl<I: Image> MediumControl for ImageMedium<I> {
 
     ghost was_told = { λ old new told. ToldBytes (bytes_in old) (bytes_in new) told };
 
+    /// # Clauses
+    ///
+    /// - `rule`, `same_shape`, `bytes`: all that `ram_medium` says of a controllable medium; and the bytes.
+    /// - `told` (`ToldBytes`): the bytes again, in the words of the trait, for those above who do not know that the medium is an
+    ///   image's.
     fn fail(&mut self, block: u32) -> FailEnd
         ensures rule { FailRule (total (shape_of_medium self.old)) (machine_in self.old) (machine_in self.new)
             block result }
@@ -512,6 +543,11 @@ impl<I: Image> MediumControl for ImageMedium<I> {
         }
     }
 
+    /// # Clauses
+    ///
+    /// - `rule`, `same_shape`, `bytes`: all that `ram_medium` says of a controllable medium; and the bytes.
+    /// - `told` (`ToldBytes`): the bytes again, in the words of the trait, for those above who do not know that the medium is an
+    ///   image's.
     fn wear(&mut self, block: u32, n: u32) -> Arm
         requires { 1 ≤ n }
         ensures rule { WearRule (total (shape_of_medium self.old)) (machine_in self.old) (machine_in self.new)
@@ -524,6 +560,11 @@ impl<I: Image> MediumControl for ImageMedium<I> {
         self.armed.wear(blocks, block, n)
     }
 
+    /// # Clauses
+    ///
+    /// - `rule`, `same_shape`, `bytes`: all that `ram_medium` says of a controllable medium; and the bytes.
+    /// - `told` (`ToldBytes`): the bytes again, in the words of the trait, for those above who do not know that the medium is an
+    ///   image's.
     fn arm_cut(&mut self, n: u32, fate: Fate)
         requires { 1 ≤ n }
         ensures rule { machine_in self.new ≡ with_armed_cut n fate (machine_in self.old) }

@@ -43,6 +43,13 @@ enum HeaderFound {
 /// Opens an image as the medium of a disc with a layout of this kind. The power is off. Where the image is refused it is handed
 /// back as it was, with the memory.
 ///
+/// # Clauses
+///
+/// - `IsOpened`: opened: the bytes are those of a disc with a layout of the kind that is asked for, and the medium shows that
+///   disc's geometry, the label that goes with it, and its cells, with the power off, nothing counted and nothing armed.
+/// - `IsRefused`: refused, for its cause: its first 16 bytes, its length, or a failure. The bytes are as before, and so is the
+///   count, but for a failure.
+///
 /// # Answers
 ///
 /// - `Ok`: the bytes are a disc image of the geometry that is given. Then: a medium with its cells; the power is off, nothing is

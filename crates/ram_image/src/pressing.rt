@@ -19,6 +19,11 @@ pub enum PressOut {
 /// Makes the image anew: a disc of this geometry with blank cells. Its length is set to 0, then to the full number,
 /// and then the header is written.
 ///
+/// # Clauses
+///
+/// - `PressRule`: `Done`: whatever the image had before, it is now exactly the header and zeros (`pressed_image`), so all its
+///   cells are blank. `Failed`: its count rose; it is as before, or no disc's, or has blank cells alone.
+///
 /// # Answers
 ///
 /// - `Done`: the image was made anew. Then: it is the header and zeros: a disc of this geometry with blank cells.

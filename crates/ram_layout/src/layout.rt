@@ -16,27 +16,48 @@ pub trait Layout {
     ghost blocks: { Self → List ℕ };
 
     /// How many logical blocks there are.
+    ///
+    /// # Clauses
+    ///
+    /// - `count`: how many logical blocks the pools have.
+    /// - `lawful`: two logical blocks are two blocks, two spares are two blocks, and no block is both.
     fn logical(&self) -> u32
         ensures count { result ≡ length (logical_in (pools self.now)) }
         ensures lawful { ArePools (pools self.now) };
 
     /// The block of logical block `i`.
+    ///
+    /// # Clauses
+    ///
+    /// - the block of a logical block.
     fn physical(&self, i: u32) -> u32
         requires { i < length (logical_in (pools self.now)) }
         ensures { result ≡ block_in (pools self.now) i };
 
     /// How many pools there are.
+    ///
+    /// # Clauses
+    ///
+    /// - `count`, `few`: how many pools there are, each with fewer spares than a number of 32 bits counts.
     fn pools(&self) -> u32
         ensures count { result ≡ length (pools self.now) }
         ensures few { (pool : ℕ) → length (spares_at (pools self.now) pool) < 2 ^ 32 };
 
     /// The pool of logical block `i`.
+    ///
+    /// # Clauses
+    ///
+    /// - `pool`, `inside`: the pool of a logical block, which is one of them.
     fn pool_of(&self, i: u32) -> u32
         requires { i < length (logical_in (pools self.now)) }
         ensures pool { result ≡ pool_of (pools self.now) i }
         ensures inside { result < length (pools self.now) };
 
     /// The spare of this pool that is taken as the `k`-th, counted from 0. None exactly where it has no more than `k`.
+    ///
+    /// # Clauses
+    ///
+    /// - the spare of a pool that is taken as the k-th; none exactly where it has no more than k.
     ///
     /// # Answers
     ///
@@ -47,6 +68,10 @@ pub trait Layout {
         ensures { result ≡ slice_get (spares_at (pools self.now) pool) k };
 
     /// What a block is.
+    ///
+    /// # Clauses
+    ///
+    /// - what a block is: a logical block, with its number; a spare; a data block that is neither; or no data block.
     ///
     /// # Answers
     ///

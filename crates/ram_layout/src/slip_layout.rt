@@ -51,6 +51,12 @@ impl Model for SlipLayout {
 impl SlipLayout {
     /// The layout of a structure with n supplementary spares.
     ///
+    /// # Clauses
+    ///
+    /// - the table is that of the structure and of the size of the supplementary spare area: its blocks are the data blocks that
+    ///   are not slipped, and it has room for as many runs as a disc of the geometry may have. `rebuild` asks for that room, so
+    ///   it takes no memory. These and `set_ssa` ask for a geometry with one group of spares.
+    ///
     /// # Answers
     ///
     /// - `Ok`: the table of the structure, with room for that of any disc. (`IsSlippingOf`)
@@ -82,6 +88,12 @@ impl SlipLayout {
     }
 
     /// Makes it the layout of a structure with n supplementary spares. It takes no memory.
+    ///
+    /// # Clauses
+    ///
+    /// - the table is that of the structure and of the size of the supplementary spare area: its blocks are the data blocks that
+    ///   are not slipped, and it has room for as many runs as a disc of the geometry may have. `rebuild` asks for that room, so
+    ///   it takes no memory. These and `set_ssa` ask for a geometry with one group of spares.
     pub fn rebuild(&mut self, geometry: &Geometry, dds: &DdsPdl, ssa: u32)
         requires valid { IsValidPdl geometry.now (dds_of dds.now) }
         requires area { IsValidOnSome geometry.now ssa }
@@ -98,6 +110,10 @@ impl SlipLayout {
     }
 
     /// Changes the size of the supplementary spare area. It takes no memory.
+    ///
+    /// # Clauses
+    ///
+    /// - the number of logical blocks is that of the new size, and nothing else changes.
     pub fn set_ssa(&mut self, ssa: u32)
         requires area { IsValidOnSome self.old.shape ssa }
         requires one { self.old.shape.layout ≡ OneGroup }
@@ -108,6 +124,10 @@ impl SlipLayout {
     }
 
     /// The longest runs of consecutive numbers among the data blocks that are not slipped.
+    ///
+    /// # Clauses
+    ///
+    /// - the runs, which are the longest ones, give the blocks of the table.
     pub fn runs(&self) -> &[Run]
         ensures { blocks_in result.now ≡ self.now.blocks }
     {

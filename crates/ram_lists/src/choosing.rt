@@ -91,6 +91,11 @@ fn choose_under<M: Medium>(
 /// Chooses the lists of a disc: 8 uses, and one more for each first part of a secondary list after which another follows. The
 /// lists are in `lists` then; `other` is room for the copies that are looked at, and has any lists afterwards.
 ///
+/// # Clauses
+///
+/// - `rule` (`ChoosesBoth`, `WasStopped`), `reads`, `as_many`: the same choice by its two steps, with which `mount_lists` and
+///   `find_lists` begin.
+///
 /// # Answers
 ///
 /// It only reads (`ReadsAlone`).
@@ -147,6 +152,13 @@ pub fn choose_lists<M: Medium>(
 }
 
 /// Finds the lists of a disc, as a mount does, and repairs none of their copies.
+///
+/// # Clauses
+///
+/// - `rule` (`FoundRule`, `WasStopped`): what a mount finds, over the cells as they are, and nothing is repaired: both lists,
+///   valid, with their areas (`FindsBoth`), or none, and the mark (`FindsNeither`); or why it was stopped.
+/// - `reads` (`ReadsAlone`), `counts`, `as_many`: nothing but reads happened to the medium; where it came to its end the power is
+///   on, and neither a cut nor a fault is counted.
 ///
 /// # Answers
 ///

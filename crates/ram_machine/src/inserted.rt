@@ -98,6 +98,11 @@ impl<D: Drive> Inserted<D> {
     /// What a line does, with its data in `payload`. The data that a command gives are then in `data_in`, and what it held
     /// before does not matter. The blocks that a scrub of all of them found are then in `found`.
     ///
+    /// # Clauses
+    ///
+    /// - `step`, `count`: For each state before: the step of the line with the data that it gives (`data_told`), and the state
+    ///   after. The image's count rose exactly where the image failed.
+    ///
     /// # Answers
     ///
     /// - `Ok`: the line was answered. Then: the state is that after the step of the line. (`IsAnswered`)
@@ -316,6 +321,11 @@ fn insert<D: Drive>(
 /// What lies in the drive when a run begins: a disc where the image holds one, with a layout of the kind that the rooms are for.
 /// Where the image failed, it is handed back.
 ///
+/// # Clauses
+///
+/// - What a run begins with: a disc where the image holds one, else the image (`StartRule`). Where the image failed it is handed
+///   back with the bytes that it had.
+///
 /// # Answers
 ///
 /// - `Ok`: the image was looked at, and did not fail. Then: what lies in the drive is what a run over its bytes begins with.
@@ -343,6 +353,11 @@ pub fn begin<D: Drive>(rooms: TargetRooms, image: D::Image) -> Result<Inserted<D
 
 /// Presses a disc of this many zones, this scale and this many primary spares, in this order, on the image that lies in the
 /// drive, where they are within their limits. Its layout is of the drive's kind. Whatever the answer, the scrubber is new.
+///
+/// # Clauses
+///
+/// - `step`, `count`: For each state before: the step of the line with the data that it gives (`data_told`), and the state after.
+///   The image's count rose exactly where the image failed.
 fn press_disc<D: Drive>(
     inserted: Inserted<D>,
     wanted: (u32, u32, u32),

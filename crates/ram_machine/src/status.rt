@@ -28,6 +28,11 @@ impl Status {
     ghost use Rattle.ram_machine.specs.Statuses.{exit_number};
 
     /// The exit status of the program.
+    ///
+    /// # Clauses
+    ///
+    /// - The exit status: 0 Done, 2 Usage, 3 Script, 4 ImageFault, 5 SourceFault, 6 SinkFault, 7 NoMemory, 8 NotADisc
+    ///   (`specs/Statuses.antt`).
     pub fn exit_number(self) -> u8
         ensures { result ≡ exit_number self }
     {

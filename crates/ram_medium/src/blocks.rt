@@ -27,10 +27,18 @@ pub trait Medium {
     ghost takes: { Self → Self → Event → Type 0 };
 
     /// How many blocks the medium has.
+    ///
+    /// # Clauses
+    ///
+    /// - `power`: the power, and nothing else.
     fn blocks(&self) -> u32
         ensures { result ≡ block_count self.now };
 
     /// Whether the power is on.
+    ///
+    /// # Clauses
+    ///
+    /// - `power`: the power, and nothing else.
     ///
     /// # Answers
     ///
@@ -40,6 +48,16 @@ pub trait Medium {
 
     /// Reads a block. `into` changes only where all of it was read. With the power off nothing happens; where the answer
     /// is a cut or a failure the power is off afterwards.
+    ///
+    /// # Clauses
+    ///
+    /// - `rule` (`ReadRule`): `Done`: the cell is good, these are its bytes, and no cell changed. `Unreadable`: the cell is not
+    ///   good. `Cut`: the power was cut in this use. `Off`: the power was off, and nothing changed. `Failed`: the count of faults
+    ///   rose, and the power is off. After `Unreadable`, `Cut` and `Failed` the cell is as it was, or dead. The caller's block
+    ///   changes with `Done` alone.
+    /// - `event` (`MemTakes`): it does exactly what the event does on a controllable medium. It fails exactly at a use whose
+    ///   number was named. Then the use and one fault are counted, arms and armed cut count down, the power is off, and no cell
+    ///   changed, nor, by `read`, the caller's block.
     ///
     /// # Answers
     ///
@@ -62,6 +80,14 @@ pub trait Medium {
     /// Reads a block straight into the caller's bytes, as many as a block has. It does what `read` does, but that what these
     /// bytes are is said only where all of the block was read.
     ///
+    /// # Clauses
+    ///
+    /// - `rule` (`ReadRule`): the same straight into the caller's bytes, of which nothing is said but after `Done`
+    ///   (`bytes_read`).
+    /// - `event` (`MemTakes`): it does exactly what the event does on a controllable medium. It fails exactly at a use whose
+    ///   number was named. Then the use and one fault are counted, arms and armed cut count down, the power is off, and no cell
+    ///   changed, nor, by `read`, the caller's block.
+    ///
     /// # Answers
     ///
     /// As for `Medium::read`.
@@ -75,6 +101,14 @@ pub trait Medium {
 
     /// Writes a block. A dead one stays dead, and the write of one is done all the same: a read tells. With the power off
     /// nothing happens; where the answer is a cut or a failure the power is off afterwards.
+    ///
+    /// # Clauses
+    ///
+    /// - `rule` (`WriteRule`): `Done`: the cell has just these bytes, or is dead. `Cut`, `Failed`: it is as it was, has the
+    ///   bytes, is torn, or is dead.
+    /// - `event` (`MemTakes`): it does exactly what the event does on a controllable medium. It fails exactly at a use whose
+    ///   number was named. Then the use and one fault are counted, arms and armed cut count down, the power is off, and no cell
+    ///   changed, nor, by `read`, the caller's block.
     ///
     /// # Answers
     ///
@@ -93,6 +127,13 @@ pub trait Medium {
 
     /// Writes a block straight from the caller's bytes, as many as a block has. It does what `write` does.
     ///
+    /// # Clauses
+    ///
+    /// - `rule` (`WriteRule`): the same straight from the caller's bytes.
+    /// - `event` (`MemTakes`): it does exactly what the event does on a controllable medium. It fails exactly at a use whose
+    ///   number was named. Then the use and one fault are counted, arms and armed cut count down, the power is off, and no cell
+    ///   changed, nor, by `read`, the caller's block.
+    ///
     /// # Answers
     ///
     /// As for `Medium::write`.
@@ -105,12 +146,20 @@ pub trait Medium {
         ensures as_many { block_count self.new ≡ block_count self.old };
 
     /// Turns the power on, and does nothing else.
+    ///
+    /// # Clauses
+    ///
+    /// - `power`: the power, and nothing else.
     fn power_on(&mut self)
         ensures power { world self.new ≡ record (world self.old) { power = true } }
         ensures event { takes self.old self.new PowerOn }
         ensures as_many { block_count self.new ≡ block_count self.old };
 
     /// Turns the power off, and does nothing else.
+    ///
+    /// # Clauses
+    ///
+    /// - `power`: the power, and nothing else.
     fn power_off(&mut self)
         ensures power { world self.new ≡ record (world self.old) { power = false } }
         ensures event { takes self.old self.new PowerOff }

@@ -52,6 +52,13 @@ pub trait MediumControl: Medium {
     /// Makes the block of this number, counted from 0, dead, with the power on or off. It is no use: nothing is counted
     /// and no arm counts down.
     ///
+    /// # Clauses
+    ///
+    /// - `rule` (`FailRule`): `Done`: the block is dead, and nothing else changed, no count either. `NoBlock`: there is none, and
+    ///   nothing changed. `Failed`: what the medium lies on failed and counted it; the power is off, and the block is as it was
+    ///   or dead.
+    /// - `never_fails`: it never answers `Failed`, since this medium lies on nothing.
+    ///
     /// # Answers
     ///
     /// What it makes of the bytes of an image: `FailBytes` in `crates/ram_image/specs/EventBytes.antt`.
@@ -69,6 +76,11 @@ pub trait MediumControl: Medium {
     /// Makes a block dead at its `n`-th use from now on: 1 is the next. At most [`MOST_ARMS`](crate::MOST_ARMS) arms
     /// stand, and a block may have several.
     ///
+    /// # Clauses
+    ///
+    /// - `rule` (`WearRule`): one arm more stands, behind the others: the block dies at its n-th use from now on. Or there is no
+    ///   such block, or as many arms stand as can, and nothing changed.
+    ///
     /// # Answers
     ///
     /// - `Set`: there is such a block, and fewer than 64 arms stand. Then: one arm more. (`WearRule`)
@@ -83,6 +95,11 @@ pub trait MediumControl: Medium {
 
     /// Cuts the power at the `n`-th use from now on, and a write that is then cut leaves its block by the fate. The
     /// cut takes the place of one that was armed.
+    ///
+    /// # Clauses
+    ///
+    /// - `rule`: the power is cut at the n-th use from now on, and a write that is then cut leaves its block by this fate. The
+    ///   cut takes the place of one that was armed.
     fn arm_cut(&mut self, n: u32, fate: Fate)
         requires { 1 ≤ n }
         ensures rule { machine_shown Self.world arms armed_cut self.new

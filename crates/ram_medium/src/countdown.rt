@@ -12,6 +12,10 @@ use model_medium::{ArmedCut, Fate, WornBlock};
 pub const MOST_ARMS: usize = 64;
 
 /// The number that contracts share with the code.
+///
+/// # Clauses
+///
+/// - `arms`: at most 64 arms stand.
 pub fn limits_are_these()
     ensures arms { MOST_ARMS ≡ 64 }
 {}
@@ -56,6 +60,12 @@ impl Armed {
     ghost use Rattle.ram_medium.specs.Countdown.{arms_of, armed_cut_of};
 
     /// Nothing is armed.
+    ///
+    /// # Clauses
+    ///
+    /// - `IsNewInMemory`: as many blank cells as asked for, the power off, nothing counted and nothing armed; or no memory.
+    /// - `arms`, `cut`, `dies`, `due`: the arms in their order and the armed cut, and what is due at a use: exactly the
+    ///   definitions of `model_medium`.
     pub fn new() -> Armed
         ensures arms { arms_of result ≡ [] }
         ensures cut { armed_cut_of result ≡ None }
@@ -68,6 +78,11 @@ impl Armed {
 
     /// Makes a block of n dead at its `n`-th use from now on, unless there is no such block or as many arms stand
     /// as can.
+    ///
+    /// # Clauses
+    ///
+    /// - `arms`, `cut`, `dies`, `due`: the arms in their order and the armed cut, and what is due at a use: exactly the
+    ///   definitions of `model_medium`.
     ///
     /// # Answers
     ///
@@ -91,6 +106,11 @@ impl Armed {
     }
 
     /// Cuts the power at the `n`-th use from now on, in place of a cut that was armed.
+    ///
+    /// # Clauses
+    ///
+    /// - `arms`, `cut`, `dies`, `due`: the arms in their order and the armed cut, and what is due at a use: exactly the
+    ///   definitions of `model_medium`.
     pub fn arm_cut(&mut self, n: u32, fate: Fate)
         requires { 1 ≤ n }
         ensures arms { arms_of self.new ≡ arms_of self.old }
@@ -100,6 +120,11 @@ impl Armed {
     }
 
     /// Counts a use of the block: first its arms count down, and then the armed cut does. What is due.
+    ///
+    /// # Clauses
+    ///
+    /// - `arms`, `cut`, `dies`, `due`: the arms in their order and the armed cut, and what is due at a use: exactly the
+    ///   definitions of `model_medium`.
     pub fn count(&mut self, block: u32) -> Due
         ensures dies { result.dies ≡ is_killed block (arms_of self.old) }
         ensures due { result.cut ≡ fate_due (armed_cut_of self.old) }

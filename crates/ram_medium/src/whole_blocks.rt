@@ -15,6 +15,11 @@ use ram_bytes::Block;
 
 /// Reads a block. Whether it has whole bytes, or why the read was stopped; `into` changes only where it has.
 ///
+/// # Clauses
+///
+/// - `rule`, `continues`, `event`: the same as `read`, `read_into` and `write_from`, with the three ways to stop as an error, for
+///   `?`.
+///
 /// # Answers
 ///
 /// - `Ok`: the read was not stopped; `true` or `false`. Then: the power is on; one use. (`EndedRead`)
@@ -47,6 +52,11 @@ pub fn read_whole<M: Medium>(medium: &mut M, block: u32, into: &mut Block) -> Re
 /// Reads a block straight into the caller's bytes, as many as a block has. Whether it has whole bytes, or why the read was
 /// stopped; what the caller's bytes are then is said only where it has.
 ///
+/// # Clauses
+///
+/// - `rule`, `continues`, `event`: the same as `read`, `read_into` and `write_from`, with the three ways to stop as an error, for
+///   `?`.
+///
 /// # Answers
 ///
 /// As for `read_whole`.
@@ -74,6 +84,11 @@ pub fn read_whole_into<M: Medium>(medium: &mut M, block: u32, into: &mut [u8]) -
 
 /// Writes a block straight from the caller's bytes, as many as a block has, or says why the write was stopped. A dead block
 /// stays dead.
+///
+/// # Clauses
+///
+/// - `rule`, `continues`, `event`: the same as `read`, `read_into` and `write_from`, with the three ways to stop as an error, for
+///   `?`.
 ///
 /// # Answers
 ///

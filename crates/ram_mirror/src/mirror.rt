@@ -71,6 +71,10 @@ impl<A: Disc, B: Disc> Mirror<A, B> {
     ghost use Rattle.ram_mirror.specs.Mirrors.{IsNew, mirror_shows, mirror_stands};
 
     /// A mirror of these sides, which is off; side `a` leads.
+    ///
+    /// # Clauses
+    ///
+    /// - the sides are those that were given, and come back.
     pub fn new(rooms: MirrorRooms, a: A, b: B) -> Mirror<A, B>
         ensures { IsNew result a b }
     {
@@ -88,6 +92,10 @@ impl<A: Disc, B: Disc> Mirror<A, B> {
     }
 
     /// The memory of the mirror, and its sides, first side `a`.
+    ///
+    /// # Clauses
+    ///
+    /// - the sides are those that were given, and come back.
     pub fn into_parts(self) -> (MirrorRooms, A, B)
         ensures a { result.1 ≡ self.a }
         ensures b { result.2 ≡ self.b }
@@ -109,6 +117,11 @@ impl<A: Disc, B: Disc> Mirror<A, B> {
     /// Reads `n` sectors from sector `lba` on from the lead, and from the other side each block that the lead cannot give, where that one
     /// is up and the block is not apart. The answer is the lead's. A lead that is stopped gives the lead to the other side where that has
     /// all that the lead had.
+    ///
+    /// # Clauses
+    ///
+    /// - `cause`, `step`: `MirrorReadCause`: the reads of its sides that it made; of the disc that it stands for, `ReadStep`, as
+    ///   a read of one disc.
     ///
     /// # Answers
     ///
@@ -154,6 +167,10 @@ impl<A: Disc, B: Disc> Mirror<A, B> {
 
     /// Writes `n` sectors from sector `lba` on, on the lead and then on the other side where that is up. The answer is the lead's. A
     /// lead that is stopped gives the lead to the other side where that has all that the lead had.
+    ///
+    /// # Clauses
+    ///
+    /// - `cause`, `step`: `MirrorWriteCause`, with the marks of the table; `WriteStep`.
     ///
     /// # Answers
     ///
@@ -201,6 +218,10 @@ impl<A: Disc, B: Disc> Mirror<A, B> {
     /// Turns the power of both sides off and on again. The same side leads as before, and the answer is its own. The other side is up where
     /// it is ready with the lead's capacity, and every block is apart.
     ///
+    /// # Clauses
+    ///
+    /// - `cause`, `step`: `MirrorPowerCause`; `PowerStep`.
+    ///
     /// # Answers
     ///
     /// - `Ready`: the lead is. Then: every block is apart; the other side is up where it is ready with this capacity.
@@ -223,6 +244,10 @@ impl<A: Disc, B: Disc> Mirror<A, B> {
 
     /// Formats the lead anew, without a memory of what was defective, and where that is good the other side too. The answer is the lead's.
     /// Where both have as many blocks then, the other side is up and no block is apart.
+    ///
+    /// # Clauses
+    ///
+    /// - `cause`, `step`: `MirrorFormatCause`: the other side is formatted after a good format of the lead alone; `FormatStep`.
     ///
     /// # Answers
     ///
@@ -250,6 +275,11 @@ impl<A: Disc, B: Disc> Mirror<A, B> {
     }
 
     /// Copies each block that is apart from the lead to the other side, in rising order, while that is up. Tells how many are apart still.
+    ///
+    /// # Clauses
+    ///
+    /// - `cause`, `step`: `ResyncCause`: each block that is apart was copied in turn, while the other side was up, and how many
+    ///   are left; `ResyncStep`.
     ///
     /// # Answers
     ///
@@ -286,6 +316,10 @@ impl<A: Disc, B: Disc> Mirror<A, B> {
 
     /// Whether side `a` leads.
     ///
+    /// # Clauses
+    ///
+    /// - as shown.
+    ///
     /// # Answers
     ///
     /// - `true`, `false`: whether side `a` leads. (`mirror_shows`)
@@ -297,6 +331,10 @@ impl<A: Disc, B: Disc> Mirror<A, B> {
 
     /// Whether the side that does not lead is up.
     ///
+    /// # Clauses
+    ///
+    /// - as shown.
+    ///
     /// # Answers
     ///
     /// - `true`, `false`: whether the other side is up. (`mirror_shows`)
@@ -307,6 +345,10 @@ impl<A: Disc, B: Disc> Mirror<A, B> {
     }
 
     /// Whether a logical block is apart: the other side is not known to have what the lead has.
+    ///
+    /// # Clauses
+    ///
+    /// - as shown.
     ///
     /// # Answers
     ///

@@ -47,6 +47,10 @@ impl<D: Caching> Target<D> {
     /// A target over this disc, in the state of one whose power just came on, with one block for the text of the disc's
     /// structure. What the block holds does not matter. It takes no memory of its own: replies are put straight where the
     /// caller wants them.
+    ///
+    /// # Clauses
+    ///
+    /// - The disc is the one that was given. What is remembered is as after a power on.
     pub fn new(disc: D, block: Block) -> Target<D>
         ensures disc { result.disc ≡ disc }
         ensures host { result.host ≡ powered_on }
@@ -59,6 +63,10 @@ impl<D: Caching> Target<D> {
     }
 
     /// The disc, without its target, and the block.
+    ///
+    /// # Clauses
+    ///
+    /// - The disc is the one that was given. What is remembered is as after a power on.
     pub fn into_parts(self) -> (D, Block)
         ensures { result.0 ≡ self.disc }
     {
@@ -68,6 +76,11 @@ impl<D: Caching> Target<D> {
 
     /// Turns the power off and on again, and the write cache off. Then the disc is in, its removal is allowed, and the host is to
     /// be told.
+    ///
+    /// # Clauses
+    ///
+    /// - `rule`: `IsPoweredAgain`: The write cache is turned off, and the power off and on by one call of the disc; the attention
+    ///   stands, removal is allowed, the disc is in, and no sense is kept.
     ///
     /// # Answers
     ///
@@ -94,6 +107,13 @@ impl<D: Caching> Target<D> {
     /// removal prevented; 2/3A/00 without a disc; 3/31/00 on a disc that is not formatted; 5/21/00 past its end; 5/26/00 for
     /// an expansion to a capacity that it cannot have; and what the disc answers.
     /// (After INCITS MMC; the order is this project's own.)
+    ///
+    /// # Clauses
+    ///
+    /// - `step`: `IsStep`: With the power off the answer is off, and nothing changes; the rest stands below the table.
+    /// - `underwent`: Nothing but events happened to the medium of the disc, whatever the answer; the same of `Target::power`.
+    /// - `same_shape`, `room`: The geometry stays; no room is given up. What `data_in` held before does not matter: it is as
+    ///   `step` says after each answer.
     ///
     /// # Answers
     ///

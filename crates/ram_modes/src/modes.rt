@@ -18,6 +18,10 @@ pub struct Modes {
 
 impl Modes {
     /// The pages of a drive whose write cache is on or off.
+    ///
+    /// # Clauses
+    ///
+    /// - pages of a drive whose write cache is on or off, as is given.
     pub fn new(caches: bool) -> Modes
         ensures { result.caches ≡ caches }
     {
@@ -26,6 +30,13 @@ impl Modes {
 
     /// Appends the data of MODE SENSE(10): of the page with this code, or of all of them, with the values for which this
     /// page control asks. (After INCITS SPC.)
+    ///
+    /// # Clauses
+    ///
+    /// - `appended`: behind what was there stands the whole reply, `mode_data`: a header of eight bytes that tells how many bytes
+    ///   follow its first two, then page 01h, page 08h, or both in this order for 3Fh; with page control 0 the values in force,
+    ///   with 1 the bits that may be changed, with 2 the default values, in which the write cache is off.
+    /// - `room`: the room of the list is no smaller.
     pub fn sense(&self, control: u8, page: u8, out: &mut Vec<u8>)
         requires control { control < 3 }
         requires page { IsTrue (is_page_code page) }
@@ -44,6 +55,10 @@ impl Modes {
     }
 
     /// The same, cut to the allocation length, which is in bytes.
+    ///
+    /// # Clauses
+    ///
+    /// - `appended`: the same, cut to the allocation length.
     pub fn sense_within(&self, control: u8, page: u8, allocation: u32, out: &mut Vec<u8>)
         requires control { control < 3 }
         requires page { IsTrue (is_page_code page) }
@@ -59,6 +74,14 @@ impl Modes {
     /// Takes the parameter list of MODE SELECT(10). A list that is empty, or names no other value than one in force but that of
     /// WCE, is taken, and its last caching page sets WCE; every other one is refused with 5/26/00, and changes nothing. (After
     /// INCITS SPC.)
+    ///
+    /// # Clauses
+    ///
+    /// - `cases`: a list is taken exactly where it is empty, or is a header of eight bytes whose last two are zero and then whole
+    ///   pages of 12 bytes, each with its default values, bit 7 of its first byte and the bit of the write cache aside; every
+    ///   other list is 5/26/00.
+    /// - `caches`: the write cache is as the last caching page of a list that is taken says, and as it was without one, or where
+    ///   the list is not taken.
     ///
     /// # Answers
     ///

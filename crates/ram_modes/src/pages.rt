@@ -62,6 +62,10 @@ pub fn page_with(wanted: u8) -> Option<Page>
 
 /// Whether this code asks for a page.
 ///
+/// # Clauses
+///
+/// - exactly whether a code asks for a page.
+///
 /// # Answers
 ///
 /// - `true`, `false`: `true` exactly for the code of a page, or that of all. (`is_page_code`)
@@ -92,6 +96,10 @@ pub fn header(pages: u8) -> [u8; HEADER_BYTES]
 }
 
 /// Whether so many bytes are no list of pages: a list has none, or a header and up to two pages.
+///
+/// # Clauses
+///
+/// - exactly whether that number of bytes is no list: a list has none, 8, 20 or 32.
 ///
 /// # Answers
 ///

@@ -31,6 +31,12 @@ pub trait Image {
 
     /// The number of bytes, from 0 to 2^64 - 1. It changes none.
     ///
+    /// # Clauses
+    ///
+    /// - `TakeRule`, `PutRule`, `LenRule`, `ReadAtRule`, `WriteAtRule`, `SetLenRule`, `OpenRule`: What each answer says of the
+    ///   bytes, as the comment at the call and `docs/ANSWERS.md` tell. A `read_at` or a `len` changes no byte of the image,
+    ///   whatever the answer.
+    ///
     /// # Answers
     ///
     /// - `Is`: the number of bytes. Then: nothing changed. (`IsUnchanged`)
@@ -40,6 +46,12 @@ pub trait Image {
 
     /// Reads the bytes from byte `at` on into the whole of `into`; the range lies inside the image. It changes no byte
     /// of the image. `Failed` says nothing of what `into` then holds.
+    ///
+    /// # Clauses
+    ///
+    /// - `TakeRule`, `PutRule`, `LenRule`, `ReadAtRule`, `WriteAtRule`, `SetLenRule`, `OpenRule`: What each answer says of the
+    ///   bytes, as the comment at the call and `docs/ANSWERS.md` tell. A `read_at` or a `len` changes no byte of the image,
+    ///   whatever the answer.
     ///
     /// # Answers
     ///
@@ -53,6 +65,12 @@ pub trait Image {
     /// Writes all of `from` from byte `at` on; the range lies inside the image. Where it fails, each byte of that range
     /// is the old or the new one, and nothing else differs.
     ///
+    /// # Clauses
+    ///
+    /// - `TakeRule`, `PutRule`, `LenRule`, `ReadAtRule`, `WriteAtRule`, `SetLenRule`, `OpenRule`: What each answer says of the
+    ///   bytes, as the comment at the call and `docs/ANSWERS.md` tell. A `read_at` or a `len` changes no byte of the image,
+    ///   whatever the answer.
+    ///
     /// # Answers
     ///
     /// - `Done`: all bytes were written. Then: the image has them there, and differs nowhere else. (`IsChanged`)
@@ -65,6 +83,12 @@ pub trait Image {
 
     /// Makes the image `len` bytes long: keeps the bytes below both lengths, and grows with zeros. Where it fails, the
     /// image is as it was, or as after a call that is done.
+    ///
+    /// # Clauses
+    ///
+    /// - `TakeRule`, `PutRule`, `LenRule`, `ReadAtRule`, `WriteAtRule`, `SetLenRule`, `OpenRule`: What each answer says of the
+    ///   bytes, as the comment at the call and `docs/ANSWERS.md` tell. A `read_at` or a `len` changes no byte of the image,
+    ///   whatever the answer.
     ///
     /// # Answers
     ///

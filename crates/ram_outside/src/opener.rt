@@ -45,6 +45,12 @@ pub trait Opener {
     /// Opens the image of this name, to be read and written. Its count of failures begins at 0. `Failed` says that no image is open, and one
     /// failure more is counted.
     ///
+    /// # Clauses
+    ///
+    /// - `TakeRule`, `PutRule`, `LenRule`, `ReadAtRule`, `WriteAtRule`, `SetLenRule`, `OpenRule`: What each answer says of the
+    ///   bytes, as the comment at the call and `docs/ANSWERS.md` tell. A `read_at` or a `len` changes no byte of the image,
+    ///   whatever the answer.
+    ///
     /// # Answers
     ///
     /// - `Image`: the image that was next is open. Then: it has counted no failure; the opener was asked for this name. (`Opens`)
@@ -57,6 +63,12 @@ pub trait Opener {
 
     /// Opens the image of this name, to be read alone: one that is not there is a failure, and none is made. It answers as
     /// `open` does, and what was asked for says which of the two it was.
+    ///
+    /// # Clauses
+    ///
+    /// - `TakeRule`, `PutRule`, `LenRule`, `ReadAtRule`, `WriteAtRule`, `SetLenRule`, `OpenRule`: What each answer says of the
+    ///   bytes, as the comment at the call and `docs/ANSWERS.md` tell. A `read_at` or a `len` changes no byte of the image,
+    ///   whatever the answer.
     ///
     /// # Answers
     ///
@@ -71,6 +83,11 @@ pub trait Opener {
             (opener_view (next self.new) (returned self.new) (asked self.new) (faults self.new)) result };
 
     /// Takes an image back, and adds its failures to the opener's; they alone are counted. What is given next stays.
+    ///
+    /// # Clauses
+    ///
+    /// - `CloseRule`: The image is the one that was handed back last. Exactly its failures are added to the opener's. What is
+    ///   given next and what was asked for stay.
     fn close(&mut self, image: Self::Image)
         ensures { CloseRule returned_known Self.Image.faults image
             (opener_view (next self.old) (returned self.old) (asked self.old) (faults self.old))

@@ -22,6 +22,12 @@ pub trait Sink {
     /// Writes the first bytes of `piece`, which has one byte at least: as many as the sink takes at once, from 1 to
     /// all. `Took` says how many. `Failed` says that nothing was written, and one failure more is counted.
     ///
+    /// # Clauses
+    ///
+    /// - `TakeRule`, `PutRule`, `LenRule`, `ReadAtRule`, `WriteAtRule`, `SetLenRule`, `OpenRule`: What each answer says of the
+    ///   bytes, as the comment at the call and `docs/ANSWERS.md` tell. A `read_at` or a `len` changes no byte of the image,
+    ///   whatever the answer.
+    ///
     /// # Answers
     ///
     /// - `Took`: the sink took the first bytes of the piece: one at least, all at most. Then: just these are written, behind what

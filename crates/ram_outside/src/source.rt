@@ -25,6 +25,12 @@ pub trait Source {
     /// come at once, from 1 to all of `into`. `Got` says how many. `End` says that nothing is left, `Failed` that as
     /// much is left as before and one failure more is counted.
     ///
+    /// # Clauses
+    ///
+    /// - `TakeRule`, `PutRule`, `LenRule`, `ReadAtRule`, `WriteAtRule`, `SetLenRule`, `OpenRule`: What each answer says of the
+    ///   bytes, as the comment at the call and `docs/ANSWERS.md` tell. A `read_at` or a `len` changes no byte of the image,
+    ///   whatever the answer.
+    ///
     /// # Answers
     ///
     /// - `Got`: the next bytes came: one at least, and no more than the slice holds. Then: they are at the start of the slice,

@@ -135,6 +135,10 @@ impl Gathered {
 
 /// Hands the sink the whole text, or tells how many bytes it took before it failed, and counted it.
 ///
+/// # Clauses
+///
+/// - `HandOverRule`: The whole text was written; or a prefix of it, and the sink's count rose.
+///
 /// # Answers
 ///
 /// - `Ok`: the whole text was written. (`HandOverRule`)

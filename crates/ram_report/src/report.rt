@@ -32,6 +32,10 @@ impl ReportWriter {
 
     /// A writer with nothing gathered.
     ///
+    /// # Clauses
+    ///
+    /// - `left`, `empty`: It asks for at most `WRITER_MEMORY` bytes of a budget that has as many. Nothing is gathered.
+    ///
     /// # Answers
     ///
     /// - `Ok`: nothing is gathered. (clause)
@@ -49,6 +53,11 @@ impl ReportWriter {
 
     /// Puts a text behind what is due. Where the sink fails, a prefix of the text is.
     ///
+    /// # Clauses
+    ///
+    /// - `PutsText`: The same of a part of a line. What was written and what is gathered are together what is due: no byte is
+    ///   lost, doubled or out of order.
+    ///
     /// # Answers
     ///
     /// - `Ok`: the whole text is due. (`IsPut`)
@@ -60,6 +69,11 @@ impl ReportWriter {
     }
 
     /// Hands the sink what is gathered.
+    ///
+    /// # Clauses
+    ///
+    /// - `HandsOver`: What is due stays as it was. Nothing is gathered any more, and the sink counted nothing; or the sink's
+    ///   count rose.
     ///
     /// # Answers
     ///
@@ -73,6 +87,11 @@ impl ReportWriter {
 
     /// Puts a number in decimal digits behind what is due.
     ///
+    /// # Clauses
+    ///
+    /// - `PutsText`: The same of a part of a line. What was written and what is gathered are together what is due: no byte is
+    ///   lost, doubled or out of order.
+    ///
     /// # Answers
     ///
     /// - `Ok`: the digits of the number are due. (`IsPut`)
@@ -85,6 +104,11 @@ impl ReportWriter {
     }
 
     /// Puts bytes in lower-case hexadecimal digits behind what is due, at most a sector's.
+    ///
+    /// # Clauses
+    ///
+    /// - `PutsText`: The same of a part of a line. What was written and what is gathered are together what is due: no byte is
+    ///   lost, doubled or out of order.
     ///
     /// # Answers
     ///

@@ -11,6 +11,10 @@ use crate::search::count_in;
 use model_lists::PdlEntry;
 
 /// Puts the blocks from `from` on to before `end` behind the others.
+///
+/// # Clauses
+///
+/// - `table`, `blocks`: a range of blocks comes behind the others, and the runs are the longest ones still.
 pub fn push_range(runs: &mut Vec<Run>, from: u32, end: u32)
     requires table { IsTable runs.old.items }
     requires behind { end_of 0 runs.old.items ≤ from }
@@ -46,6 +50,10 @@ fn block_of(slipped: &[PdlEntry], k: usize) -> u32
 }
 
 /// How many of these entries, which rise, name blocks before this one, by halving.
+///
+/// # Clauses
+///
+/// - how many of the entries, which rise, name blocks before this one.
 pub fn count_below(slipped: &[PdlEntry], block: u32) -> usize
     requires { IsStrictlyIncreasing (pdl_blocks slipped.now) }
     ensures { IsCountBelow (pdl_blocks slipped.now) block result }
@@ -55,6 +63,11 @@ pub fn count_below(slipped: &[PdlEntry], block: u32) -> usize
 
 /// Puts the blocks from `first` on to before `end` behind the others, without those that are slipped. Of the slipped blocks,
 /// `before` come before `first`, and `until` before `end`.
+///
+/// # Clauses
+///
+/// - `table`, `blocks`: the same of a range without its slipped blocks.
+/// - `more`, `room`: it takes one run more than it passes over slipped blocks, and no memory where there is room for them.
 pub fn push_kept(
     runs: &mut Vec<Run>,
     slipped: &[PdlEntry],

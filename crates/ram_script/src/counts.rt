@@ -63,6 +63,10 @@ impl AnswerCounts {
     }
 
     /// Counts one reply more, where it is that of a command.
+    ///
+    /// # Clauses
+    ///
+    /// - Each count is how many lines were answered so (`counts_in`).
     pub fn count(&mut self, reply: &Reply)
         requires { AreAtMost self.old (2 ^ 63) }
         ensures { self.new ≡ with_reply self.old reply.now }

@@ -33,6 +33,10 @@ pub fn status_of(ending: Result<(), Stopped>) -> Status
 }
 
 /// Ends a report, and tells how the run ended.
+///
+/// # Clauses
+///
+/// - `rule`: The last line, where there is one, is printed, and all that is due is handed over.
 pub fn finish<S: Source, K: Sink>(
     dialogue: &mut Dialogue<S, K>,
     tally: Tally,

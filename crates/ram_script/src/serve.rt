@@ -49,6 +49,11 @@ fn answer_line<D: Drive, S: Source, K: Sink>(
 }
 
 /// Answers the lines of a script one after another, and tells why they end.
+///
+/// # Clauses
+///
+/// - `ends`, `counts`: The same over what is inserted. What is due is said where the sink tells its bytes (`IsDue`).
+/// - `known`: A sink that tells its bytes still tells them.
 fn serve_lines<D: Drive, S: Source, K: Sink>(
     inserted: Inserted<D>,
     state: &mut RunState,
@@ -85,6 +90,11 @@ fn serve_lines<D: Drive, S: Source, K: Sink>(
 /// Answers the lines of a script over an image, whose discs have a layout of the kind that the rooms are for, and tells why they end.
 /// The image is handed back as they leave it.
 ///
+/// # Clauses
+///
+/// - `leaves`, `counts`: The lines that were answered are a run, why they end, and what they leave of the image (`LeavesBy`); no
+///   last line is printed.
+///
 /// # Answers
 ///
 /// - `Ok`: the script was answered to its end. (`LeavesBy`)
@@ -117,6 +127,10 @@ pub fn answer_lines<D: Drive, S: Source, K: Sink>(
 
 /// Serves a script over an image, whose discs have a layout of the kind that the rooms are for, and hands the image back as the lines
 /// leave it.
+///
+/// # Clauses
+///
+/// - `leaves`, `counts`: The table above; and by the status which count rose (`StatusCounts`).
 ///
 /// # Answers
 ///

@@ -69,6 +69,10 @@ impl RunState {
 
 impl Tally {
     /// One line more, and one answer more where it has one.
+    ///
+    /// # Clauses
+    ///
+    /// - Each count is how many lines were answered so (`counts_in`).
     fn add(&mut self, reply: &Reply)
         requires lines { self.old.lines < 2 ^ 63 }
         requires answered { self.old.answered < 2 ^ 63 }
@@ -88,6 +92,10 @@ impl Tally {
 
 /// Takes the next line of the script, with its data; None where the script has ended. The data that
 /// the line before gave are let go. Pending answers are flushed before more input is read.
+///
+/// # Clauses
+///
+/// - `next`, `counts`: The next line of the script, or why there is none.
 pub fn take_line<S: Source, K: Sink>(
     state: &mut RunState,
     dialogue: &mut Dialogue<S, K>,
@@ -121,6 +129,11 @@ pub fn take_line<S: Source, K: Sink>(
 }
 
 /// Tells what became of a line: its reply is printed, and the line counts; else the run ends. The scrubber has these blocks.
+///
+/// # Clauses
+///
+/// - `tells`, `count`, `tally`: The reply is printed with its number and the line counts; an outcome that ends the run is told as
+///   it is.
 pub fn tell<S: Source, K: Sink>(
     state: &mut RunState,
     dialogue: &mut Dialogue<S, K>,

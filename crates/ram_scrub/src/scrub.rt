@@ -51,6 +51,11 @@ impl Scrub {
 
     /// A scrubber that has found nothing, and begins at block 0. It takes the room for all blocks that it may find on any disc.
     ///
+    /// # Clauses
+    ///
+    /// - `left`, `fresh`: it asks for at most `SCRUB_MEMORY` bytes of a budget that has as many; nothing is found, and the next
+    ///   step takes block 0. A refusal is the system's, by its type.
+    ///
     /// # Answers
     ///
     /// - `Ok`: memory for 146,930 numbers was given. Then: nothing is found, and block 0 is next. (`scrubber_of`)
@@ -67,6 +72,10 @@ impl Scrub {
     }
 
     /// Forgets what was found, and begins at block 0 again, in the room that it has.
+    ///
+    /// # Clauses
+    ///
+    /// - its one clause: nothing is found any more, and the next step takes block 0.
     pub fn restart(&mut self)
         ensures { scrubber_of self.new ≡ fresh }
     {
@@ -76,6 +85,10 @@ impl Scrub {
 
     /// The blocks that were found unreadable, rising. A block stays there until a step can read it, or meets a formatted disc
     /// that does not have it: also where it was written meanwhile, and where a format slipped over its home.
+    ///
+    /// # Clauses
+    ///
+    /// - their one clause: the found blocks, rising; the block that the next step takes.
     pub fn found(&self) -> &[u32]
         ensures { result.now ≡ (scrubber_of self.now).found }
     {
@@ -83,6 +96,10 @@ impl Scrub {
     }
 
     /// The block that the next step takes. Behind the last block of the disc it is their number, and the next step takes block 0.
+    ///
+    /// # Clauses
+    ///
+    /// - their one clause: the found blocks, rising; the block that the next step takes.
     pub fn next(&self) -> u32
         ensures { result ≡ (scrubber_of self.now).next }
     {
@@ -142,6 +159,16 @@ impl Scrub {
     /// Only the disc is asked: blocks that wait in a write cache are not looked at, and are not written first. What the drive
     /// stands for stays, but that after `Cut` and `Fault` the power is off. (This project's own.)
     ///
+    /// # Clauses
+    ///
+    /// - `rule` (`StepRule`): the found blocks that the disc does not have are dropped, and past its last block it begins at
+    ///   block 0 again. Then the next block is verified, whole, by one call of the drive, and nothing else is asked. `Readable`:
+    ///   it is not among the found blocks, `Unreadable`: it is, and the next step takes the one behind it; `Cut` and `Fault` come
+    ///   as those of the verification, and the next step takes the same block. `NotFormatted` and `Off` come exactly where they
+    ///   say so, and then drive and scrubber are as before.
+    /// - `step` (`StepContents`): what the drive stands for becomes what a verification makes of it: it stays, but that after
+    ///   `Cut` and `Fault` the power is off.
+    ///
     /// # Answers
     ///
     /// Causes: `StepRule`; the values: `StepContents`. On a formatted disc the found blocks that it does not have are dropped
@@ -200,6 +227,12 @@ impl Scrub {
     ///   takes block 0.
     ///
     /// (This project's own.)
+    ///
+    /// # Clauses
+    ///
+    /// - `rule` (`PassRule`): one step for each logical block, from block 0 on, each `Readable` or `Unreadable`; `Done` after the
+    ///   last, or the end of the step that was neither.
+    /// - `step` (`PassContents`): the same of what the drive stands for.
     ///
     /// # Answers
     ///

@@ -36,6 +36,13 @@ pub trait Caching {
 
     /// How many sectors the disc has, a multiple of 16. None exactly where the power is off or the disc is not formatted.
     ///
+    /// # Clauses
+    ///
+    /// - `rule` (`CapacityRule` in `Tells.antt`): the number of sectors, or nothing exactly where the power is off or the disc is
+    ///   not formatted.
+    /// - `few`: those of at most 146,930 blocks (`MOST_BLOCKS`): the greatest disc has no more data blocks.
+    /// - the disc's: what the disc tells; `capacity` with both clauses.
+    ///
     /// # Answers
     ///
     /// - `Some`, `None`: how many sectors, of at most 146,930 blocks; `None` exactly when the power is off or the disc is not
@@ -46,6 +53,10 @@ pub trait Caching {
 
     /// Whether writes go into the cache.
     ///
+    /// # Clauses
+    ///
+    /// - whether writes go into the cache; turns it on or off, and changes nothing else.
+    ///
     /// # Answers
     ///
     /// - `true`, `false`: `true` exactly when the cache is on. (clause)
@@ -54,6 +65,14 @@ pub trait Caching {
 
     /// Reads `n` sectors from sector `lba` on: pending blocks from the cache, the others from the disc, one after another. The
     /// answers are those of a read of the disc.
+    ///
+    /// # Clauses
+    ///
+    /// - `step` (`ReadStep`): Good gives the sectors of the disc. The disc is the same after every answer.
+    /// - `completes`: a read in range of blocks that are buffered or whole is Good, if no cut and no fault came.
+    /// - `quiet`: a read of blocks that are all buffered is done, and uses no block of the medium.
+    /// - `cause` (`CacheReadCause`), `step` (`ReadContents`): pending blocks come from the cache, the others from the disc, in
+    ///   rising order; Good gives the sectors that are shown.
     ///
     /// # Answers
     ///
@@ -83,6 +102,16 @@ pub trait Caching {
     /// Writes `n` sectors from sector `lba` on: into the cache where that is on and few blocks are covered, and else through it.
     /// A write into the cache makes room first, by writing the oldest pending blocks that it does not cover to the disc; then it
     /// reads the rests of blocks that it covers in part. One that is refused changes no contents.
+    ///
+    /// # Clauses
+    ///
+    /// - `cause` (`WriteCause`): where each block went (`Course.antt`); from that follow the uses, the lists, and the cells that
+    ///   may have changed. After a move a copy of the list that says so can be read.
+    /// - `step` (`WriteStep`): Good replaces the sectors. A write that was refused at a block has replaced those before it. One
+    ///   that was stopped leaves two discs: with the block in progress as before, and as written.
+    /// - `completes`: a write in range is Good where nothing dies, and a write of whole blocks where it has spares.
+    /// - `cause` (`CacheWriteCause`), `step` (`WriteContents`): into the cache where it is on and at most 16 blocks are covered:
+    ///   the oldest others leave first, the rests are read, then all covered blocks are pending; else through it.
     ///
     /// # Answers
     ///
@@ -116,6 +145,15 @@ pub trait Caching {
 
     /// Turns the power off and on again. Pending blocks are lost.
     ///
+    /// # Clauses
+    ///
+    /// - `cause` (`PowerCause`): which lists were chosen, over the cells as they were read; uses by what had to be repaired;
+    ///   after a stop no pair is given that was not given before.
+    /// - `step` (`PowerStep`): the first of its discs that fits under the lists in use is found; or the disc without sectors,
+    ///   where none are chosen.
+    /// - `cause` (`CachePowerCause`), `step` (`PowerContents`): pending blocks are lost; of discs taken from the candidates the
+    ///   first that fits is found.
+    ///
     /// # Answers
     ///
     /// Nothing is pending on any answer. Causes: `CachePowerCause`; the values: `PowerContents`.
@@ -133,6 +171,13 @@ pub trait Caching {
         ensures underwent { underwent self.old self.new };
 
     /// Formats the disc. After a full format that is done nothing is pending, nor where the disc is not formatted afterwards.
+    ///
+    /// # Clauses
+    ///
+    /// - `cause` (`FormatCause`), `step` (`FormatStep`): by its kind: a full format leaves zeros and fresh lists, or none; a
+    ///   rewriting one keeps the disc.
+    /// - `completes`: a format that could end well does.
+    /// - `cause`, `step` (`FormatContents`, `ExpandContents`): as the disc's; what stays pending is said for each answer.
     ///
     /// # Answers
     ///
@@ -157,6 +202,14 @@ pub trait Caching {
 
     /// Gives the disc a smaller capacity, in sectors. The blocks that it loses are not pending then.
     ///
+    /// # Clauses
+    ///
+    /// - `cause` (`ExpandCause`), `step` (`ExpandStep`): the secondary list with the larger area is in use, in 8 uses for each
+    ///   part of the list (16 for a list of version 2), and the disc is cut to its first sectors; or nothing changed, with the
+    ///   capacity that is present, refused or not to be written; one that was stopped leaves two discs, as it was and cut.
+    /// - `completes`: an expansion that could end well does.
+    /// - `cause`, `step` (`FormatContents`, `ExpandContents`): as the disc's; what stays pending is said for each answer.
+    ///
     /// # Answers
     ///
     /// Each answer comes as that of `Disc::expand` (`CacheExpandCause`). The values: `ExpandContents`.
@@ -178,6 +231,13 @@ pub trait Caching {
 
     /// Verifies sectors: the disc alone is asked.
     ///
+    /// # Clauses
+    ///
+    /// - `cause` (`VerifyCause`), `step` (`VerifyStep`): each home was read, up to the first that is not whole; the buffer and
+    ///   the disc are as before.
+    /// - `completes`: a verification in range of blocks that are whole is Good, if no cut and no fault came.
+    /// - `cause` (`CacheVerifyCause`), `step`: the disc alone is asked.
+    ///
     /// # Answers
     ///
     /// The disc alone is asked (`CacheVerifyCause`): each answer comes as that of `Disc::verify`. The values: `VerifyContents`.
@@ -198,11 +258,21 @@ pub trait Caching {
         ensures underwent { underwent self.old self.new };
 
     /// What the disc is, and how many of its spares are free.
+    ///
+    /// # Clauses
+    ///
+    /// - its one clause (`CountsRule` in `Tells.antt`): power, format, capacities, spares and which of them are free.
+    /// - the disc's: what the disc tells; `capacity` with both clauses.
     fn counts(&self) -> DriveCounts
         ensures { CountsRule (shows self.now).drive result };
 
     /// Puts the text of the disc definition structure in use into the block. False, with the block as it was, exactly where
     /// the power is off or the disc is not formatted.
+    ///
+    /// # Clauses
+    ///
+    /// - its one clause (`DdsRule`): the text of the structure in use; false, with the block as it was, exactly without one.
+    /// - the disc's: what the disc tells; `capacity` with both clauses.
     ///
     /// # Answers
     ///
@@ -212,12 +282,21 @@ pub trait Caching {
         ensures { DdsRule (shows self.now).drive into.old into.new result };
 
     /// Turns the cache on or off. What is pending stays so.
+    ///
+    /// # Clauses
+    ///
+    /// - whether writes go into the cache; turns it on or off, and changes nothing else.
     fn write_cache(&mut self, on: bool)
         ensures mode { shows self.new ≡ record (shows self.old) { caches = on } }
         ensures stands { (s : Contents) → stands self.old s → stands self.new s }
         ensures underwent { underwent self.old self.new };
 
     /// Writes sectors through the cache: the covered blocks that are pending are written back first, the oldest first.
+    ///
+    /// # Clauses
+    ///
+    /// - `cause` (`ThroughCause`), `step` (`ThroughContents`): the covered pending blocks are flushed, then the disc writes: what
+    ///   was covered has its new value alone.
     ///
     /// # Answers
     ///
@@ -253,6 +332,11 @@ pub trait Caching {
 
     /// Writes all pending blocks to the disc, the oldest first, up to the first that is refused.
     ///
+    /// # Clauses
+    ///
+    /// - `cause` (`SyncCause`), `step` (`SyncContents`): all pending blocks are flushed, the oldest first, up to the first that
+    ///   is refused; after Good each block has its last value alone.
+    ///
     /// # Answers
     ///
     /// Causes: `SyncCause`; the values: `SyncContents`.
@@ -275,6 +359,11 @@ pub trait Caching {
         ensures underwent { underwent self.old self.new };
 
     /// Writes the oldest pending block to the disc.
+    ///
+    /// # Clauses
+    ///
+    /// - `cause` (`TickCause`), `step` (`TickContents`): the oldest is flushed; Idle exactly where the power is on and nothing is
+    ///   pending.
     ///
     /// # Answers
     ///

@@ -277,6 +277,10 @@ pub trait Disc: Sectors {
 
     /// Exchanges this room for one that the drive reads into when it reads back. Either may have any bytes. It changes nothing else,
     /// and is there for speed alone: the room of what was written last is near.
+    ///
+    /// # Clauses
+    ///
+    /// - `same`: the drive shows what it showed, and so stands for the same; which bytes either room has is not said.
     fn exchange_room(&mut self, room: &mut Block)
         ensures same { Self.shows self.new ≡ Self.shows self.old }
         ensures underwent { Self.underwent self.old self.new };

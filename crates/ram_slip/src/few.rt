@@ -10,6 +10,10 @@ use ram_zones::{Geometry, LayoutKind};
 
 /// Whether the block is a data block of this zone.
 ///
+/// # Clauses
+///
+/// - whether a block is a data block of a zone, and how many of the slipped ones are.
+///
 /// # Answers
 ///
 /// - `true`, `false`: `true` exactly when the block is a data block of the zone. (clause)
@@ -21,6 +25,10 @@ pub fn is_inside(geometry: &Geometry, zone: u32, block: u32) -> bool
 }
 
 /// How many of the entries name data blocks of this zone.
+///
+/// # Clauses
+///
+/// - whether a block is a data block of a zone, and how many of the slipped ones are.
 pub fn slipped_in(geometry: &Geometry, entries: &[PdlEntry], zone: u32) -> usize
     requires { zone < geometry.now.zones }
     ensures { result ≡ slipped_in geometry.now (pdl_blocks entries.now) zone }
@@ -48,6 +56,10 @@ fn zones_have_few(geometry: &Geometry, entries: &[PdlEntry], most: u32) -> bool
 }
 
 /// Whether no more blocks are named than may be slipped: in all, or in each zone.
+///
+/// # Clauses
+///
+/// - exactly whether no more blocks are named than may be slipped: in all, or in each zone.
 ///
 /// # Answers
 ///

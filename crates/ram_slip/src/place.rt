@@ -27,6 +27,10 @@ pub enum Place {
 
 /// A block is one of these things at most, and one logical block at most. So each answer of `place_of` comes exactly
 /// where it says what the block is.
+///
+/// # Clauses
+///
+/// - a block is one of these at most, and one logical block at most: so each answer of `place_of` comes exactly where it is so.
 pub fn a_block_has_one_place()
     ensures { (shape : Shape) (dds : Dds) (ssa block : ℕ) (a b : Place)
         → IsValidPdl shape dds → IsValidOnSome shape ssa

@@ -15,6 +15,10 @@ use ram_dds::DdsPdl;
 use ram_zones::{Geometry, LayoutKind};
 
 /// Data block `n`, counted from 0, which there is.
+///
+/// # Clauses
+///
+/// - data block `n`, counted from 0.
 pub fn data_block(geometry: &Geometry, n: u32) -> u32
     requires { n < length (data_blocks geometry.now) }
     ensures { result ≡ slice_index (data_blocks geometry.now) n }
@@ -26,6 +30,11 @@ pub fn data_block(geometry: &Geometry, n: u32) -> u32
 }
 
 /// How many primary spares are left: each slipped block has taken one.
+///
+/// # Clauses
+///
+/// - `left`: how many primary spares are left.
+/// - `lawful`: the geometry is lawful.
 pub fn primary_left(geometry: &Geometry, dds: &DdsPdl) -> u32
     requires { IsValidPdl geometry.now (dds_of dds.now) }
     ensures lawful { IsLawful geometry.now }
@@ -104,6 +113,10 @@ fn turn_in_group(geometry: &Geometry, dds: &DdsPdl, ssa: u32, place: u32) -> Opt
 
 /// What a block is to a disc with n supplementary spares.
 ///
+/// # Clauses
+///
+/// - what a block is: logical block `i`, a primary or a supplementary spare, slipped, or no data block.
+///
 /// # Answers
 ///
 /// A block is one of these things at most (`a_block_has_one_place`), so each answer comes exactly when it says what the block is.
@@ -131,6 +144,10 @@ pub fn place_of(geometry: &Geometry, dds: &DdsPdl, ssa: u32, block: u32) -> Plac
 
 /// The turn of a spare in the order in which spares are taken, counted from 0, or none where the block is no spare. Each spare
 /// has a turn of its own, below the number of all spares.
+///
+/// # Clauses
+///
+/// - the turn of a spare in the order in which spares are taken; none exactly where the block is no spare.
 ///
 /// # Answers
 ///

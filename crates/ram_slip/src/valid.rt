@@ -52,6 +52,10 @@ fn is_same(a: LayoutKind, b: LayoutKind) -> bool
 /// Whether the primary defect list is valid for the geometry: its structure has the kind of its layout and its primary spares,
 /// and its blocks are data blocks that rise, no more than may be slipped.
 ///
+/// # Clauses
+///
+/// - exactly whether the primary list is valid for the geometry, of the kind of its layout, which these calls ask for.
+///
 /// # Answers
 ///
 /// - `true`, `false`: `true` exactly when the primary list is valid for the geometry. (`IsValidPdl`)
@@ -87,6 +91,10 @@ fn may_have(geometry: &Geometry, ssa: u32) -> bool
 
 /// Whether n supplementary spares are valid: the spares are no more than a disc of this version may have, a logical
 /// block is left, and the layout may have them.
+///
+/// # Clauses
+///
+/// - exactly whether that number of supplementary spares is valid, which `place_of` and `spare_turn` ask for.
 ///
 /// # Answers
 ///

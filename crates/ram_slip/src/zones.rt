@@ -19,6 +19,10 @@ const LEAD_IN_BLOCKS: u32 = 8;
 const GUARDS: u32 = 2;
 
 /// How many logical blocks a zone has: its data blocks without its spares.
+///
+/// # Clauses
+///
+/// - `count`, `first`: with a group of spares in each zone: how many logical blocks a zone has, and the number of the first.
 pub fn zone_count(geometry: &Geometry, zone: u32) -> u32
     requires each { geometry.now.layout ≡ EachZone }
     requires zone { zone < geometry.now.zones }
@@ -30,6 +34,10 @@ pub fn zone_count(geometry: &Geometry, zone: u32) -> u32
 }
 
 /// The number of the first logical block of a zone; or, after the last zone, the number of all logical blocks.
+///
+/// # Clauses
+///
+/// - `count`, `first`: with a group of spares in each zone: how many logical blocks a zone has, and the number of the first.
 pub fn zone_first(geometry: &Geometry, zone: u32) -> u32
     requires each { geometry.now.layout ≡ EachZone }
     requires zone { zone ≤ geometry.now.zones }
@@ -94,6 +102,10 @@ pub fn turn_in_zone(
 }
 
 /// Whether a spare may replace a block by where they lie: with a group of spares in each zone both lie in one zone.
+///
+/// # Clauses
+///
+/// - exactly whether a spare may replace a block by where they lie: with a group in each zone both lie in one zone.
 ///
 /// # Answers
 ///

@@ -31,6 +31,11 @@ fn used_by(entry: SdlEntry) -> u32
 }
 
 /// How many spares are free. Each entry uses one up, so one pass over the entries tells.
+///
+/// # Clauses
+///
+/// - `primary`, `supplementary`: how many spares of each area are free; with a group of spares in each zone all count as primary
+///   ones.
 pub fn counts(geometry: &Geometry, dds: &DdsPdl, sdl: &Sdl) -> SpareCounts
     requires { AreValid geometry.now (both_lists dds.now sdl.now) }
     ensures primary { result.free_primary

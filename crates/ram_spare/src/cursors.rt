@@ -33,6 +33,10 @@ impl Model for Cursors {
 impl Cursors {
     /// Room for the cursors of any disc, and none yet.
     ///
+    /// # Clauses
+    ///
+    /// - as many cursors as pools, each at the first spare.
+    ///
     /// # Answers
     ///
     /// - `Ok`: room for the cursors of any disc, and none yet. (clause)
@@ -48,6 +52,10 @@ impl Cursors {
     }
 
     /// How many there are.
+    ///
+    /// # Clauses
+    ///
+    /// - how many there are; the cursor of a pool; that cursor moved, and no other.
     pub fn pools(&self) -> u32
         ensures { result ≡ length self.now }
     {
@@ -55,6 +63,10 @@ impl Cursors {
     }
 
     /// The cursor of a pool.
+    ///
+    /// # Clauses
+    ///
+    /// - how many there are; the cursor of a pool; that cursor moved, and no other.
     pub fn at(&self, pool: u32) -> u32
         requires { pool < length self.now }
         ensures { result ≡ slice_index self.now pool }
@@ -63,6 +75,10 @@ impl Cursors {
     }
 
     /// Moves the cursor of a pool.
+    ///
+    /// # Clauses
+    ///
+    /// - how many there are; the cursor of a pool; that cursor moved, and no other.
     pub fn set(&mut self, pool: u32, at: u32)
         requires { pool < length self.old }
         ensures { self.new ≡ slice_set self.old pool at }

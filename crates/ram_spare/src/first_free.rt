@@ -91,6 +91,13 @@ fn first_free<L: Layout>(layout: &L, sdl: &Sdl, replaced: &[u32], pool: u32) -> 
 impl Cursors {
     /// Moves each cursor behind the first spares of its pool that entries name: to the first free spare, or behind the last where
     /// none is free. `blocks` is room for the replacements.
+    ///
+    /// # Clauses
+    ///
+    /// - `first_free`: each cursor is at the first spare of its pool that no entry names, or behind the last where each is named:
+    ///   as far as a mount may set it, and no less far.
+    /// - `fit`, `one_each`: the cursors fit the list; there are as many as before.
+    /// - `blocks_room`: the room for the replacements is at least as large as before.
     pub fn set_to_first_free<L: Layout>(&mut self, layout: &L, sdl: &Sdl, blocks: &mut Vec<u32>)
         requires one_each { length self.old ≡ length (L.pools layout.now) }
         requires rise { IsStrictlyIncreasing (defectives sdl.now.entries) }

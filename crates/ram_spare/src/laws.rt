@@ -8,6 +8,13 @@ ghost use Rattle.ram_spare.specs.Spares.{spare_before};
 
 /// Whoever asks for the next spare of a pool after none, and then after each one that was given, is given its free spares one
 /// after another, each once, and none after the last. What was given is a spare, so it may be asked for.
+///
+/// # Clauses
+///
+/// - `follows`: after each free spare of a pool comes the next of its free spares.
+/// - `walks`: asking for the first, and then for the one after each that was given, gives the free spares in their order, each
+///   once, and none after the last.
+/// - `asked`: each that was given may be asked for: it is one of the spares.
 pub fn next_free_walks_through_the_free_spares()
     ensures follows { (pools : List Pool) (entries : List SdlEntry) (pool : ℕ) → ArePools pools
         → (k : ℕ) → k < length (free_at pools entries pool)

@@ -54,6 +54,11 @@ fn is_free(sdl: &Sdl, block: u32) -> bool
 
 /// The first free spare of a pool from this turn on, counted from 0. It is none exactly where there is none.
 ///
+/// # Clauses
+///
+/// - `finds`: the first free spare of a pool from a turn on, with its turn; none exactly where there is none.
+/// - `few`: a pool has fewer spares than a number of 32 bits counts.
+///
 /// # Answers
 ///
 /// - `Some`, `None`: the first free spare of the pool from that turn on, with its turn; `None` exactly when there is none.
@@ -120,6 +125,11 @@ fn first_turn<L: Layout>(layout: &L, pool: u32, cursor: u32, after: Option<u32>)
 
 /// The next free spare of a pool: the first, or the first after the spare `after`. It is none exactly where there is none.
 /// Spares before the cursor are not looked at.
+///
+/// # Clauses
+///
+/// - the first free spare of a pool, or the first that comes after the spare `after`; none exactly where there is none. It looks
+///   at no spare before the cursor.
 ///
 /// # Answers
 ///

@@ -89,6 +89,12 @@ impl<M: MediumControl> State<M> {
     /// changed: `NoBlock`. The state stays in both. What the medium lies on failed, and counted it: `Failed`; then the power
     /// is off. It is no use of the medium. (This project's own, as all here.)
     ///
+    /// # Clauses
+    ///
+    /// - `rule`, `stands`: `FailOnDrive`, `FailStands`: after `Done` and `NoBlock` all that is kept in memory stays, and so does
+    ///   what the drive stands for; after `Failed` the power is off, nothing is kept, and the same are candidates.
+    /// - `told`: its medium was told this, and nothing else was done to it (`was_told` of the medium).
+    ///
     /// # Answers
     ///
     /// - `Done`: there is such a block. Then: it is dead; lists, buffer and disc stay. (`FailOnDrive`, `FailStands`)
@@ -112,6 +118,11 @@ impl<M: MediumControl> State<M> {
     /// Makes the block of the medium of this number dead at its `n`-th use from now on, the next one being the first:
     /// `Set`. There is no such block: `NoBlock`. As many arms stand as can, 64: `Full`.
     ///
+    /// # Clauses
+    ///
+    /// - `rule`, `keeps`, `stands`: the arms, or the armed cut, change as `MediumControl` says, and nothing else.
+    /// - `told`: its medium was told this, and nothing else was done to it (`was_told` of the medium).
+    ///
     /// # Answers
     ///
     /// As for `MediumControl::wear`; lists, buffer and disc stay (`KeepsMemory`).
@@ -133,6 +144,11 @@ impl<M: MediumControl> State<M> {
 
     /// Cuts the power at the `n`-th use of any block from now on, the next one being the first, with this fate of a write
     /// that is cut then. It takes the place of a cut that was armed.
+    ///
+    /// # Clauses
+    ///
+    /// - `rule`, `keeps`, `stands`: the arms, or the armed cut, change as `MediumControl` says, and nothing else.
+    /// - `told`: its medium was told this, and nothing else was done to it (`was_told` of the medium).
     pub fn arm_cut(&mut self, n: u32, fate: Fate)
         requires { 1 ≤ n }
         ensures rule { (shown_state self.new).medium ≡ with_armed_cut n fate (shown_state self.old).medium }

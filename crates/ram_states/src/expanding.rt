@@ -25,6 +25,12 @@ impl<M: MediumControl> Ready<M> {
     /// fault the power is off, and the disc and its first sectors are the candidates. (Spare areas after ECMA-330; how one
     /// grows is this project's own.)
     ///
+    /// # Clauses
+    ///
+    /// - `cause`: no cells but copies of the secondary list change; after `Good` and `NoUpdate` no block is buffered.
+    /// - `happened`: nothing but events happened to its medium in between, whatever the answer (`Happened` of `model_medium`).
+    ///   What each of them did, also to the bytes under it, the medium says.
+    ///
     /// # Answers
     ///
     /// As for `Disc::expand`.

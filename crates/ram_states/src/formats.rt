@@ -53,6 +53,10 @@ impl<M: MediumControl> NotFormatted<M> {
     /// those of [`FormatOut`]; with a cut or a fault the power is off. It takes no memory. (After ECMA-330; the counters of the
     /// lists are this project's own.)
     ///
+    /// # Clauses
+    ///
+    /// - `cause`: a format of either kind is a full one here, and keeps nothing.
+    ///
     /// # Answers
     ///
     /// As for `Ready::format`.
@@ -176,6 +180,13 @@ impl<M: MediumControl> Ready<M> {
     /// sectors, and makes new lists. A rewriting one writes the copies of the lists in use again, and keeps the sectors.
     /// Neither takes memory. With a cut or a fault the power is off; a full format that found too many defective blocks, or
     /// lost all copies of a list, leaves the disc not formatted. (After the two formats of ECMA-330.)
+    ///
+    /// # Clauses
+    ///
+    /// - `cause`: a full format keeps the slipped blocks and, unless it is to forget them, the defective blocks of the secondary
+    ///   list.
+    /// - `happened`: nothing but events happened to its medium in between, whatever the answer (`Happened` of `model_medium`).
+    ///   What each of them did, also to the bytes under it, the medium says.
     ///
     /// # Answers
     ///

@@ -7,6 +7,10 @@ use crate::states::State;
 use ram_medium::MediumControl;
 
 /// What a state shows is sound.
+///
+/// # Clauses
+///
+/// - what a state shows is sound (`IsSound`).
 pub fn what_a_state_shows_is_sound<M: MediumControl>(state: &State<M>)
     ensures { IsSound (shown_state state.now) }
 {}

@@ -29,6 +29,12 @@ use ram_zones::Geometry;
 impl<M: MediumControl> PoweredOff<M> {
     /// Turns the power on, and mounts the disc.
     ///
+    /// # Clauses
+    ///
+    /// - `cause`: `Ready` stands for the answer with the disc's capacity.
+    /// - `happened`: nothing but events happened to its medium in between, whatever the answer (`Happened` of `model_medium`).
+    ///   What each of them did, also to the bytes under it, the medium says.
+    ///
     /// # Answers
     ///
     /// As for `Sectors::power`, with the state: `Ready`, `NotFormatted`, or `PoweredOff`.
@@ -93,6 +99,11 @@ fn stopped_mount<M: MediumControl>(
 
 impl<M: MediumControl> Ready<M> {
     /// Turns the power off. The drive has the disc as its only candidate then.
+    ///
+    /// # Clauses
+    ///
+    /// - `shows`, `stands`, `event`: the power is off, and nothing else changed on the medium; the disc that the drive stood for
+    ///   is its only candidate.
     pub fn power_off(self) -> PoweredOff<M>
         ensures shows { shown_off result ≡ turned_off (shown_ready self) }
         ensures stands { (s : Standing) → StandsFor (shown_ready self) s
@@ -115,6 +126,11 @@ impl<M: MediumControl> Ready<M> {
 
 impl<M: MediumControl> NotFormatted<M> {
     /// Turns the power off. The drive has the disc without sectors as its only candidate then.
+    ///
+    /// # Clauses
+    ///
+    /// - `shows`, `stands`, `event`: the power is off, and nothing else changed on the medium; the disc that the drive stood for
+    ///   is its only candidate.
     pub fn power_off(self) -> PoweredOff<M>
         ensures shows { shown_off result ≡ turned_off (shown_bare self) }
         ensures stands { (s : Standing) → StandsFor (shown_bare self) s

@@ -74,6 +74,11 @@ impl<M: MediumControl> Ready<M> {
     /// After `Good`, `Range` and `Unread` the disc is ready as before. What `into` has is said after `Good` alone. (The
     /// answers are this project's own; homes are after ECMA-330's linear replacement.)
     ///
+    /// # Clauses
+    ///
+    /// - `happened`: nothing but events happened to its medium in between, whatever the answer (`Happened` of `model_medium`).
+    ///   What each of them did, also to the bytes under it, the medium says.
+    ///
     /// # Answers
     ///
     /// As for `Sectors::read`.

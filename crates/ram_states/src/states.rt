@@ -97,6 +97,10 @@ impl<M: MediumControl> PoweredOff<M> {
     ghost use Rattle.ram_medium.specs.Laws.{machine_shown};
 
     /// A drive of this geometry over its medium, whose power is off. It works in this memory, whatever that holds.
+    ///
+    /// # Clauses
+    ///
+    /// - `shown`, `medium`: the state over a medium, with nothing kept, whatever the memory holds that it is given.
     pub fn new(medium: M, geometry: Geometry, memory: Memory) -> PoweredOff<M>
         requires size { M.block_count medium ≡ total geometry }
         requires off { ¬ IsTrue (M.world medium).power }
@@ -125,6 +129,11 @@ impl<M: MediumControl> NotFormatted<M> {
     ghost use Rattle.std.specs.Prelude.{◌≡◌};
 
     /// The mark: no copy of a list that can be read has or names a greater counter of a structure.
+    ///
+    /// # Clauses
+    ///
+    /// - how many sectors the disc has (`sectors`), at most `MOST_SECTORS` (`most`) and those of `MOST_BLOCKS` blocks (`few`);
+    ///   the mark.
     pub fn mark(&self) -> u32
         ensures { result ≡ self.now.mark }
     {
@@ -146,6 +155,10 @@ impl<M: MediumControl> State<M> {
     ghost use Rattle.ram_states.specs.Shown.{shown_state, medium_under};
 
     /// Exchanges this room for that of what is read back, where the disc is formatted. Either may have any bytes.
+    ///
+    /// # Clauses
+    ///
+    /// - `shown`, `medium`: what the drive shows, and its medium, stay.
     pub fn exchange_room(&mut self, room: &mut Block)
         ensures shown { shown_state self.new ≡ shown_state self.old }
         ensures medium { medium_under self.new ≡ medium_under self.old }
@@ -164,6 +177,11 @@ impl<M: MediumControl> Ready<M> {
     ghost use Rattle.ram_states.specs.Shown.{shown_ready};
 
     /// How many sectors the disc has.
+    ///
+    /// # Clauses
+    ///
+    /// - how many sectors the disc has (`sectors`), at most `MOST_SECTORS` (`most`) and those of `MOST_BLOCKS` blocks (`few`);
+    ///   the mark.
     pub fn capacity(&self) -> u32
         ensures sectors { result ≡ capacity (shown_ready self.now) }
         ensures most { result ≤ MOST_SECTORS }

@@ -83,6 +83,10 @@ impl<M: MediumControl> Ready<M> {
     }
 
     /// Puts the text of the disc definition structure in use into the block, all of its 32,768 bytes. (After ECMA-330.)
+    ///
+    /// # Clauses
+    ///
+    /// - all bytes of the block are the text of the disc definition structure in use (`GivesDds`).
     pub fn dds_block(&self, into: &mut Block)
         ensures { GivesDds (shown_ready self.now).lists into.new }
     {

@@ -72,6 +72,11 @@ impl<M: MediumControl> Ready<M> {
     /// After `Good`, `Range` and `Unread` the disc is ready as before. (That the medium is read, and no bytes go to the
     /// host, is after INCITS MMC's VERIFY; the answers are this project's own.)
     ///
+    /// # Clauses
+    ///
+    /// - `happened`: nothing but events happened to its medium in between, whatever the answer (`Happened` of `model_medium`).
+    ///   What each of them did, also to the bytes under it, the medium says.
+    ///
     /// # Answers
     ///
     /// As for `Disc::verify`.

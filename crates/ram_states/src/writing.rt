@@ -70,6 +70,13 @@ impl<M: MediumControl> Ready<M> {
     /// work has all its old sectors of the request or all its new ones. (Linear replacement after ECMA-330; the answers and
     /// the order are this project's own.)
     ///
+    /// # Clauses
+    ///
+    /// - `cause`: there is a course, which says of each block whether it went home or to which free spare, and by it the lists in
+    ///   use, the uses, the buffered blocks and the cells that may have changed.
+    /// - `happened`: nothing but events happened to its medium in between, whatever the answer (`Happened` of `model_medium`).
+    ///   What each of them did, also to the bytes under it, the medium says.
+    ///
     /// # Answers
     ///
     /// As for `Sectors::write`.

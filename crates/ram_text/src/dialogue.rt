@@ -28,6 +28,11 @@ impl DialogueRoom {
 
     /// Nothing was read yet, and nothing is gathered. All room is taken here.
     ///
+    /// # Clauses
+    ///
+    /// - `left`, `empty`: They ask for at most `DIALOGUE_MEMORY` bytes, or those of the reader's room, of a budget that has as
+    ///   many. Nothing was read, and nothing is gathered.
+    ///
     /// # Answers
     ///
     /// - `Ok`: nothing was read, and nothing is gathered. (`IsEmptyRoom`)
@@ -74,6 +79,12 @@ impl<'a, S: Source, K: Sink> Dialogue<'a, S, K> {
     /// Looks for the next line. Where it may have to be waited for, all of the report is handed over first; where the
     /// sink fails then, nothing is asked.
     ///
+    /// # Clauses
+    ///
+    /// - `LooksOn`: The next line as by `LineReader::next_line`. Nothing is due then but what is written, unless a whole line was
+    ///   buffered; what is due stays, and the sink counted nothing.
+    /// - `StopsAsking`: The sink's count rose before more was asked for. The source was not called, and what is due stays.
+    ///
     /// # Answers
     ///
     /// Unless a whole line is held, the report is handed over first.
@@ -110,6 +121,10 @@ impl<'a, S: Source, K: Sink> Dialogue<'a, S, K> {
     /// Prints the answer of the line of this number, which is no command. The blocks that were found are told behind how many
     /// they are.
     ///
+    /// # Clauses
+    ///
+    /// - `Tells`: As the calls of these names. The source was not called.
+    ///
     /// # Answers
     ///
     /// As for `Dialogue::print_answer`.
@@ -126,6 +141,10 @@ impl<'a, S: Source, K: Sink> Dialogue<'a, S, K> {
     }
 
     /// Prints the answer to a command, and behind `good` its reply.
+    ///
+    /// # Clauses
+    ///
+    /// - `Tells`: As the calls of these names. The source was not called.
     ///
     /// # Answers
     ///
@@ -151,6 +170,10 @@ impl<'a, S: Source, K: Sink> Dialogue<'a, S, K> {
 
     /// Prints the last line of a report.
     ///
+    /// # Clauses
+    ///
+    /// - `Tells`: As the calls of these names. The source was not called.
+    ///
     /// # Answers
     ///
     /// As for `Dialogue::print_answer`.
@@ -161,6 +184,10 @@ impl<'a, S: Source, K: Sink> Dialogue<'a, S, K> {
     }
 
     /// Hands over what is gathered.
+    ///
+    /// # Clauses
+    ///
+    /// - `HandsOverAll`: As `ReportWriter::flush`. The source was not called.
     ///
     /// # Answers
     ///

@@ -68,6 +68,11 @@ impl Model for LineReader {
 impl LineReader {
     /// A reader that has read nothing. Its room is taken here, and none later.
     ///
+    /// # Clauses
+    ///
+    /// - `left`, `empty`: They ask for at most `DIALOGUE_MEMORY` bytes, or those of the reader's room, of a budget that has as
+    ///   many. Nothing was read, and nothing is gathered.
+    ///
     /// # Answers
     ///
     /// - `Ok`: nothing was read. (clause)
@@ -105,6 +110,10 @@ impl LineReader {
 
     /// Whether the next `next_line` finds a line without asking the source.
     ///
+    /// # Clauses
+    ///
+    /// - Exactly whether that is so.
+    ///
     /// # Answers
     ///
     /// - `true`, `false`: `true` exactly when the next `next_line` finds a line without asking the source. (`HoldsLine`)
@@ -121,6 +130,19 @@ impl LineReader {
     /// Of the limits of a line and of the script the one that is passed by the earlier byte decides, and where
     /// one byte passes both, it is the script's. More is asked of the source only where all of the report is
     /// handed over.
+    ///
+    /// # Clauses
+    ///
+    /// - `rule`: `GivesLine`: The line is exactly what was left of the script up to its line feed, or to the end. What is left
+    ///   afterwards follows it. Both limits are kept.
+    /// - `rule`: `LineIsTooLong`, `ScriptIsTooLong`: A limit is told exactly where it is passed, the earlier byte first. Where
+    ///   one byte passes both, it is the script's.
+    /// - `rule`: `LineFails`: Nothing is lost. What is buffered has no line feed, so every whole line that the source gave has
+    ///   been given.
+    /// - `rule`: `count`: An answer other than `Failed` leaves the source's count exactly as it was.
+    /// - `shown` (a `requires`): Where no whole line is buffered, all of the report is handed over. So answers are shown before
+    ///   more is asked of the source.
+    /// - `asks_nothing`: Where a whole line is buffered, it is given, and the source is not called.
     ///
     /// # Answers
     ///

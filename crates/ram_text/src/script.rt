@@ -84,6 +84,11 @@ enum Form {
 ///
 /// It answers [`Unread`] exactly where the line is none of the language; `payload` is empty then.
 ///
+/// # Clauses
+///
+/// - `read`: What the line reads as by the grammar, with its data in the payload. No reading is told exactly where there is none;
+///   the payload is empty then.
+///
 /// # Answers
 ///
 /// A line reads as one thing at most (`a_line_has_one_reading`), so each form comes exactly when the line has it.

@@ -80,6 +80,10 @@ fn number(word: &[u8]) -> Option<u32>
 
 /// Whether each byte is a decimal digit.
 ///
+/// # Clauses
+///
+/// - Whether a word has decimal digits alone, and the number that up to twenty of them spell (`decimal_value`).
+///
 /// # Answers
 ///
 /// - `true`, `false`: `true` exactly when each byte is a decimal digit. (clause)
@@ -90,6 +94,10 @@ pub fn are_digits(word: &[u8]) -> bool
 }
 
 /// The number that the digits spell, the highest first. There are at most twenty of them.
+///
+/// # Clauses
+///
+/// - Whether a word has decimal digits alone, and the number that up to twenty of them spell (`decimal_value`).
 pub fn decimal(digits: &[u8]) -> u128
     requires short { length digits.now ≤ 20 }
     requires whole { AllPass is_ascii_digit digits.now }

@@ -96,6 +96,11 @@ impl Workspace {
     }
 
     /// Makes the layout that of a disc with these lists, with each cursor at the first free spare of its pool.
+    ///
+    /// # Clauses
+    ///
+    /// - `laid_out`, `same_buffer`: the layout is that of the disc with these lists, and the cursors fit them; the buffer stays.
+    /// - `first_free`: each cursor is at the first spare of its pool that no entry names, or behind the last where each is named.
     pub fn lay_out(&mut self, geometry: &Geometry, lists: &Lists)
         requires valid { AreValid geometry.now (lists_of lists.now) }
         requires kind { IsOfKind geometry.now.layout self.old.layout }
@@ -112,6 +117,10 @@ impl Workspace {
 
     /// Puts the entries that a full format keeps of these lists into their room. With `drop_sdl` those of the secondary list are
     /// forgotten.
+    ///
+    /// # Clauses
+    ///
+    /// - `kept`: in their room are just the entries that a full format keeps of these lists; buffer, layout and cursors stay.
     pub fn keep_entries(&mut self, lists: &Lists, drop_sdl: bool)
         requires apart { RiseApart (lists_of lists.now) }
         requires few { length lists.now.dds.entries ≤ 4092 }
@@ -127,6 +136,12 @@ impl Workspace {
 
 impl Memory {
     /// Takes all of it, for any disc with a layout of this kind.
+    ///
+    /// # Clauses
+    ///
+    /// - its layout is of this kind (`IsOfKind`); that there is room for the layout of any such disc, for its cursors and for
+    ///   what a full format keeps, the types keep. What else it holds is not said. It asks for at most `VOLUME_MEMORY` bytes of a
+    ///   budget that has as many (`left`); a refusal is the system's, by its type.
     ///
     /// # Answers
     ///

@@ -136,6 +136,14 @@ fn goes_past(long: bool, part: Part, k: u32, blocks: u32) -> bool
 
 /// Reads all parts of a request, in order. How many were read before one whose block cannot be, if there is such a one.
 ///
+/// # Clauses
+///
+/// - `rule` (`PartsEnd`): all parts were read, each out of the buffer or from its home, with the exact number of uses; the bytes
+///   are the sectors of the disc that lists, cells and buffer stood for; the buffer has the blocks used last, with the bytes of
+///   that disc. Or the block after the first k has a home without whole bytes, and was not at hand: those before it were read. Or
+///   it was stopped in a covered block that was not at hand. At most the home at which it ended has changed, to dead.
+/// - `as_many`: the medium has as many blocks as before.
+///
 /// # Answers
 ///
 /// The power is on, which is asked for.
@@ -187,6 +195,11 @@ pub fn read_parts<M: Medium>(
 }
 
 /// How a read ended that was not stopped: at the block after n, where there is such a one.
+///
+/// # Clauses
+///
+/// - how a read or a verification ended that was not stopped: the block that was met is named by its first sector of the request,
+///   and by its home.
 ///
 /// # Answers
 ///

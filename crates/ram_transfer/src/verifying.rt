@@ -19,6 +19,12 @@ use ram_zones::Geometry;
 /// Reads the homes of all blocks of a request, in order. How many were read before one that has no whole bytes, if there
 /// is such a one.
 ///
+/// # Clauses
+///
+/// - `rule` (`HomesEnd`): the home of each covered block was read by one use, and has whole bytes where cells are known; or that
+///   of the block after the first k has none; or it was stopped there. At most the home at which it ended has changed, to dead.
+/// - `as_many`: the medium has as many blocks as before.
+///
 /// # Answers
 ///
 /// The power is on, which is asked for; the buffer is not looked at.

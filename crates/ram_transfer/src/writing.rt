@@ -117,6 +117,15 @@ fn is_good(out: WriteOut) -> bool
 
 /// Writes all parts of a request, in order, up to one that is refused.
 ///
+/// # Clauses
+///
+/// - `rule` (`EndsParts`, `StopsParts`): what a drive shows then, of what it showed before: `WriteCause` of `model_drive`, and
+///   for each disc that it stood for the step of a write; the lists in use are settled, and the structure is the same. Where it
+///   was stopped, the same of a drive that keeps nothing.
+/// - `fit`: lists, layout, cursors and medium fit together as before (`IsFit` of `ram_lists`).
+/// - `same_layout`: the layout stays.
+/// - `happened`: nothing but events happened to the medium.
+///
 /// # Answers
 ///
 /// The power is on, which is asked for. What a drive shows then of what it showed before is what a write of a drive says.

@@ -40,6 +40,11 @@ impl<M: MediumControl> Volume<M> {
 
     /// A drive of this geometry over its medium, with its power off. It works in this memory, whatever that holds, and takes no
     /// other.
+    ///
+    /// # Clauses
+    ///
+    /// - `shown`, `medium`: it shows the geometry and the medium, with its power off and nothing kept, whatever the memory holds
+    ///   in which it is to work; and it holds that medium. The memory has room for the layout of any disc of the geometry.
     pub fn new(medium: M, geometry: Geometry, memory: Memory) -> Volume<M>
         requires size { M.block_count medium ≡ total geometry }
         requires off { ¬ IsTrue (M.world medium).power }
@@ -54,6 +59,10 @@ impl<M: MediumControl> Volume<M> {
 
     /// Makes the block of the medium of this number, counted from 0, dead, with the power on or off. Where what the medium
     /// lies on failed, the power is off, nothing is kept in memory, and the disc is a candidate.
+    ///
+    /// # Clauses
+    ///
+    /// - `rule`, `stands`, `keeps`, `told`: as those of its state.
     ///
     /// # Answers
     ///
@@ -70,6 +79,10 @@ impl<M: MediumControl> Volume<M> {
     }
 
     /// Makes a block of the medium dead at its `n`-th use from now on: 1 is the next.
+    ///
+    /// # Clauses
+    ///
+    /// - `rule`, `stands`, `keeps`, `told`: as those of its state.
     ///
     /// # Answers
     ///
@@ -90,6 +103,10 @@ impl<M: MediumControl> Volume<M> {
     }
 
     /// Cuts the power at the `n`-th use of the medium from now on, and a write that is then cut leaves its block by the fate.
+    ///
+    /// # Clauses
+    ///
+    /// - `rule`, `stands`, `keeps`, `told`: as those of its state.
     pub fn arm_cut(&mut self, n: u32, fate: Fate)
         requires { 1 ≤ n }
         ensures rule { (shown_by self.new).medium ≡ with_armed_cut n fate (shown_by self.old).medium }
@@ -103,6 +120,11 @@ impl<M: MediumControl> Volume<M> {
     }
 
     /// The medium, as the drive leaves it, and the memory.
+    ///
+    /// # Clauses
+    ///
+    /// - `medium`, `machine`: the medium that it holds, with what is armed on it, as the drive shows it.
+    /// - `room`: and the memory, which has room as before.
     pub fn into_parts(self) -> (M, Memory)
         ensures medium { result.0 ≡ medium_by self }
         ensures machine { machine_shown M.world M.arms M.armed_cut result.0 ≡ (shown_by self).medium }
@@ -132,6 +154,11 @@ impl<M: MediumControl> Sectors for Volume<M> {
 
     ghost underwent = { λ old new. Happened M.takes (medium_by old) (medium_by new) };
 
+    /// # Clauses
+    ///
+    /// - all of `Sectors` and `Disc`: what the traits say, for every controllable medium: `power` turns the power off, where it
+    ///   is on, and on; the rest stands below the table.
+    /// - `laws`: it stands for exactly what goes with what it shows; it stands for something; what it shows is sound.
     fn capacity(&self) -> Option<u32> {
         match &self.state {
             Some(State::Ready(ready)) => Some(ready.capacity()),
@@ -139,6 +166,11 @@ impl<M: MediumControl> Sectors for Volume<M> {
         }
     }
 
+    /// # Clauses
+    ///
+    /// - all of `Sectors` and `Disc`: what the traits say, for every controllable medium: `power` turns the power off, where it
+    ///   is on, and on; the rest stands below the table.
+    /// - `laws`: it stands for exactly what goes with what it shows; it stands for something; what it shows is sound.
     fn read(&mut self, lba: u32, n: u32, into: &mut [u8]) -> ReadOut {
         let state = take_out(&mut self.state);
         let (state, out) = read_state(state, lba, n, into);
@@ -146,6 +178,11 @@ impl<M: MediumControl> Sectors for Volume<M> {
         out
     }
 
+    /// # Clauses
+    ///
+    /// - all of `Sectors` and `Disc`: what the traits say, for every controllable medium: `power` turns the power off, where it
+    ///   is on, and on; the rest stands below the table.
+    /// - `laws`: it stands for exactly what goes with what it shows; it stands for something; what it shows is sound.
     fn write(&mut self, lba: u32, n: u32, from: &[u8]) -> WriteOut {
         let state = take_out(&mut self.state);
         let (state, out) = write_state(state, lba, n, from);
@@ -153,6 +190,11 @@ impl<M: MediumControl> Sectors for Volume<M> {
         out
     }
 
+    /// # Clauses
+    ///
+    /// - all of `Sectors` and `Disc`: what the traits say, for every controllable medium: `power` turns the power off, where it
+    ///   is on, and on; the rest stands below the table.
+    /// - `laws`: it stands for exactly what goes with what it shows; it stands for something; what it shows is sound.
     fn power(&mut self) -> PowerOut {
         let state = take_out(&mut self.state);
         let (state, out) = power_state(state);
@@ -174,6 +216,11 @@ impl<M: MediumControl> Sectors for Volume<M> {
 }
 
 impl<M: MediumControl> Disc for Volume<M> {
+    /// # Clauses
+    ///
+    /// - all of `Sectors` and `Disc`: what the traits say, for every controllable medium: `power` turns the power off, where it
+    ///   is on, and on; the rest stands below the table.
+    /// - `laws`: it stands for exactly what goes with what it shows; it stands for something; what it shows is sound.
     fn format(&mut self, kind: Kind) -> FormatOut {
         let state = take_out(&mut self.state);
         let (state, out) = format_state(state, kind);
@@ -181,6 +228,11 @@ impl<M: MediumControl> Disc for Volume<M> {
         out
     }
 
+    /// # Clauses
+    ///
+    /// - all of `Sectors` and `Disc`: what the traits say, for every controllable medium: `power` turns the power off, where it
+    ///   is on, and on; the rest stands below the table.
+    /// - `laws`: it stands for exactly what goes with what it shows; it stands for something; what it shows is sound.
     fn expand(&mut self, capacity: u32) -> ExpandOut {
         let state = take_out(&mut self.state);
         let (state, out) = expand_state(state, capacity);
@@ -188,6 +240,11 @@ impl<M: MediumControl> Disc for Volume<M> {
         out
     }
 
+    /// # Clauses
+    ///
+    /// - all of `Sectors` and `Disc`: what the traits say, for every controllable medium: `power` turns the power off, where it
+    ///   is on, and on; the rest stands below the table.
+    /// - `laws`: it stands for exactly what goes with what it shows; it stands for something; what it shows is sound.
     fn verify(&mut self, lba: u32, n: u32) -> ReadOut {
         let state = take_out(&mut self.state);
         let (state, out) = verify_state(state, lba, n);
@@ -195,6 +252,11 @@ impl<M: MediumControl> Disc for Volume<M> {
         out
     }
 
+    /// # Clauses
+    ///
+    /// - all of `Sectors` and `Disc`: what the traits say, for every controllable medium: `power` turns the power off, where it
+    ///   is on, and on; the rest stands below the table.
+    /// - `laws`: it stands for exactly what goes with what it shows; it stands for something; what it shows is sound.
     fn counts(&self) -> DriveCounts {
         match &self.state {
             Some(State::Off(off)) => off.counts(),
@@ -204,6 +266,11 @@ impl<M: MediumControl> Disc for Volume<M> {
         }
     }
 
+    /// # Clauses
+    ///
+    /// - all of `Sectors` and `Disc`: what the traits say, for every controllable medium: `power` turns the power off, where it
+    ///   is on, and on; the rest stands below the table.
+    /// - `laws`: it stands for exactly what goes with what it shows; it stands for something; what it shows is sound.
     fn dds_block(&self, into: &mut Block) -> bool {
         match &self.state {
             Some(State::Ready(ready)) => {
@@ -214,6 +281,11 @@ impl<M: MediumControl> Disc for Volume<M> {
         }
     }
 
+    /// # Clauses
+    ///
+    /// - all of `Sectors` and `Disc`: what the traits say, for every controllable medium: `power` turns the power off, where it
+    ///   is on, and on; the rest stands below the table.
+    /// - `laws`: it stands for exactly what goes with what it shows; it stands for something; what it shows is sound.
     fn exchange_room(&mut self, room: &mut Block) {
         if let Some(state) = &mut self.state {
             state.exchange_room(room);

@@ -84,6 +84,10 @@ impl Sink for MemSink {
 
     ghost faults = { λ s. s.calls.faults };
 
+    /// # Clauses
+    ///
+    /// - `PutsExactly`: Which call fails, and how many bytes are taken. Room that was refused is a failure, and nothing is
+    ///   written then.
     fn put(&mut self, piece: &[u8]) -> Put
         requires { 0 < length piece.now }
         ensures rule { PutRule (Some self.old.written) (Some self.new.written)

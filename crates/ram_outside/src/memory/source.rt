@@ -56,6 +56,10 @@ impl Source for MemSource {
 
     ghost faults = { λ s. s.calls.faults };
 
+    /// # Clauses
+    ///
+    /// - `TakesExactly`: Which call fails, how many bytes come at once, and which. The slice keeps its bytes behind those that
+    ///   came; where nothing came it keeps all.
     fn take(&mut self, into: &mut [u8]) -> Take
         requires { 0 < length into.old }
         ensures rule { TakeRule (Some self.old.left) (Some self.new.left)

@@ -16,6 +16,12 @@ use ram_sense::{Answer, Sense};
 /// of data where there are some. A sector is looked at in one pass to tell whether it is of one byte; the digits
 /// of each line are made 2,048 bytes at a time.
 ///
+/// # Clauses
+///
+/// - `Prints`: Exactly their text is due, and the sink counted nothing; or a prefix of it, and the sink's count rose.
+///   `print_answer` is for answers that are printed: all but a fault, and with `good` of a READ for command blocks of at least 6
+///   bytes.
+///
 /// # Answers
 ///
 /// What is due is what the sink has written, and then what is gathered for it.

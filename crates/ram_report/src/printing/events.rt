@@ -12,6 +12,12 @@ use ram_outside::Sink;
 /// Prints the answer to a line that is no command. The blocks that were found are told behind how many they are, and behind no
 /// other answer.
 ///
+/// # Clauses
+///
+/// - `Prints`: Exactly their text is due, and the sink counted nothing; or a prefix of it, and the sink's count rose.
+///   `print_answer` is for answers that are printed: all but a fault, and with `good` of a READ for command blocks of at least 6
+///   bytes.
+///
 /// # Answers
 ///
 /// As for `print_answer`.
