@@ -1,5 +1,34 @@
 //! What a drive with a write cache shows and stands for, and what each of its calls may answer. Definitions alone, and their
 //! laws.
+//!
+//! Begin with `specs/Values.antt`: the disc that is shown, and the values to which a block may fall back. Then
+//! `specs/Shown.antt`.
+//!
+//! - **Causes are data.** A call is a chain: these pending blocks were flushed, this was read, that was written. The uses of the
+//!   medium, the lists in use and the buffered blocks follow from the links, each of which is a cause of `model_drive`, and are
+//!   not said twice.
+//! - **Each link says that the disc stays sound** (`LeavesSound`), since no cause says so of what a disc shows between two calls;
+//!   and a read of the disc says that it was quiet where all its blocks were buffered (`ReadsDisc`).
+//! - **Nothing new is said of the disc.** A read, a verification, an expansion and a rewriting format do with it what they do
+//!   without a cache; the older values stay (`lifted`).
+//! - **A stopped flush** leaves two candidates with the same values: the disc below may have the block or not, and either is a
+//!   value.
+//! - **A disc that is lent** may lose pending blocks. Calls drop these first (`dropped`); until then the drive stands for
+//!   nothing.
+//!
+//! The laws are functions with an empty body in `src/laws.rt`, whose contract is the law, so the build fails where one is not
+//! proved. The comment at each says what it is, and `make docs` lists them.
+//!
+//! Public lemmas for crates above stand in `proofs/`: that blocks that are flushed are in their homes (`FlushedHomes.antt`), that
+//! what holds of each call of the disc, and of one after another, holds of each call of a drive with a cache (`Chained.antt`),
+//! what a call leaves standing (`Found.antt`), where a write found no spare (`Lacking.antt`), the blocks of a disc after sectors
+//! were replaced (`ReplacedBlocks.antt`), members of filtered lists (`Members.antt`), that discs with the same blocks are the
+//! same (`SameBlocks.antt`), that pending blocks are apart has one proof (`OneProof.antt`), and that a drive with a cache stands
+//! for just what goes with what it shows (`Standing.antt`).
+//!
+//! - **Neither proved nor tested here:** that a write of which the power is lost in the cache comes back. It need not.
+//! - **Trusted:** the toolchain.
+//! - **Stands on:** `model_drive` and what that stands on.
 #![tactic(auto)]
 
 mod laws;

@@ -1,4 +1,26 @@
 //! Command blocks: which the drive knows, and how many bytes of data go with each.
+//!
+//! A target decodes a command in two steps, since the attention of a power on is told after an unknown code and before all else:
+//! `operation` finds the row of the table, and `decode_as` reads the fields. `decode` is both at once.
+//!
+//! # What is proved
+//!
+//! - both, `limits`: of a command that is not refused: it moves at most 1,024 sectors (a verification at most 65,535); the data
+//!   of a write are its sectors; page control, page code and kind of feature request are those that the drive has.
+//!
+//! The definitions are in `model_cdb/specs/Decoding.antt`. The reasons are a list, each with when it applies: 5/24/00, where the
+//! block is too short or a field has a value that is not taken; 5/39/00, where saved mode pages are asked for; 5/1A/00, where the
+//! data have another length; 5/26/00, where the list of a format is not taken. A list of mode pages is looked at where the pages
+//! are (`ram_modes`).
+//!
+//! # What is neither
+//!
+//! Whether the drive does what a command asks: that is `model_target` and `ram_mmc`.
+//!
+//! # What is trusted
+//!
+//! The tables in `model_commands/specs` and `model_cdb/specs/Decoding.antt`, after INCITS MMC and SPC, and `byteorder` of the
+//! kit. Which values of a field are taken, and the order of the reasons, are this project's own.
 #![tactic(auto)]
 
 ghost use Rattle.std.specs.Prelude.{◌≡◌, ◌↔◌, ◌*◌, ◌≤◌, length, IsTrue, IsSome, nat_le, if◌then◌else◌};

@@ -1,5 +1,17 @@
 //! A large script from a number: the load that a user tries a disc with. It presses and formats a disc, and then draws two
 //! thousand steps: writes, reads, failures of blocks, cuts and power lines. No call takes memory.
+//!
+//! The room, `SCRIPT_ROOM`, is that of the longest script: the 81 bytes of the first lines, and 34 bytes for each of the two
+//! thousand steps, since a write adds 34 and no step adds more. So it is 68,081 bytes. No call takes memory, and none fails.
+//!
+//! A step draws one of a hundred kinds: 45 are writes, 50 are reads, and one each makes a block dead, wears one, and arms a cut;
+//! two turn the power off and on again and send a first command. Then it draws its numbers, in the order in which they stand in
+//! its lines (`specs/Script.antt`). A number is the next word of a generator (`Pcg32` of `rand_pcg`, stream 330) modulo a bound.
+//!
+//! # What is proved
+//!
+//! - `add_step`, `add_write` and the others (private), `step`, `len`: The script grew by the text of the step, by 34 bytes at
+//!   most, and the generator stands behind the numbers that were drawn (`AddsStep`).
 #![tactic(auto)]
 
 mod drawing;

@@ -1,5 +1,42 @@
 //! What a drive needs of the world outside it: a source of script bytes, a sink for the report, an image's
 //! bytes, and an opener of images. The traits say what each call may do; each failure is counted.
+//!
+//! Three things are known of such an object: its bytes, where the object makes them known; a count of its failures; and the
+//! answer of the call.
+//!
+//! So a status that reports no failure shows that no count rose: a body that passes over a failure cannot hide it. Of the
+//! adapters only the count is known, for no contract can say what a file will give.
+//!
+//! # What is proved
+//!
+//! - every call of the four traits, `count` in each rule: An answer other than `Failed` leaves the count exactly as it was.
+//!   `Failed` comes only where the count rose, or stands at 2^64 - 1. So a failure cannot be passed over.
+//! - `MemImage`, `GivesLengthExactly`, `ReadsImageExactly`, `WritesImageExactly`, `ResizesExactly`: Which call fails. A call that
+//!   fails changes no byte of the image, and a read that fails changes none of the slice.
+//! - `MemOpener`, `OpensExactly`, `after_close`: It gives its image once, whatever the name, and keeps each name that it was
+//!   asked for. Where memory for the name is refused it fails, and asked for nothing.
+//! - `StdSource`, `StdSink`, `FileImage`, `FileOpener`, `rule`, `count`: They obey their trait, with no bytes known. The count
+//!   rises by one exactly where the call failed.
+//!
+//! The definitions stand in `specs/`: one file for each trait, `Memory.antt` and `Calls.antt` for the forms in memory,
+//! `Adapters.antt` for the adapters.
+//!
+//! # What is neither
+//!
+//! - Which bytes a slice holds after a failed read of a file.
+//! - What two programs do to one file at a time.
+//! - When memory is refused.
+//!
+//! # What is trusted
+//!
+//! The system, and the toolchain's library over it: that a file or a stream does with the bytes what its calls say. No contract
+//! can say what a file gives.
+//!
+//! # What must fail
+//!
+//! `must-fail/` has four wrong changes that the prover refuses: an opener that asks for another name, one that forgets the
+//! failures of the image that it takes back, a sink that counts a failure and goes on, a failed write that changes a byte outside
+//! its range.
 #![tactic(auto)]
 
 mod errors;

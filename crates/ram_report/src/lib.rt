@@ -1,4 +1,17 @@
 //! The report, written to any sink: its lines, and the writer that gathers them.
+//!
+//! `specs/ReportLines.antt` says which bytes are an answer, `specs/Writer.antt` what a writer leaves.
+//!
+//! - `ReportWriter`, `few` (a fact of the type): At most 64 KiB (`GATHERED_ROOM`) are gathered at any time, also after a failure
+//!   of the sink.
+//!
+//! Only tested, by rows of `ram_text_tests`: the text of each answer, as bytes.
+//!
+//! Behind `found N` the blocks that were found are printed (`event_text`), behind every other answer to a line that is no command
+//! nothing.
+//!
+//! A new answer gets its words in `specs/ReportLines.antt`, its name in `Event` of `src/printing.rt`, and its text in
+//! `src/printing/events.rt`.
 #![tactic(auto)]
 
 pub mod gathered;

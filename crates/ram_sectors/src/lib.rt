@@ -1,6 +1,45 @@
 //! A drive as its host sees it, whatever it does with bad blocks: the sectors that it reads and writes, and the disc that it
 //! formats, expands, verifies and tells of. Contracts alone.
 //!
+//! A drive has three meanings beside its calls.
+//!
+//! - `shows`: the geometry, the medium with what is armed on it, the lists in use or none, the mark, and the buffered blocks with
+//!   their bytes (`Shown` of `model_drive`). Homes, dead homes, spares that can be used, lost lists and the capacity are
+//!   functions of it.
+//! - `stands`: the disc that it stands for: its sectors as they were last acknowledged. With the power off, a list of discs, one
+//!   of which is found when the power goes on (`Standing`).
+//! - `underwent`: of the drive before and after: nothing but events happened to its medium, uses and the power that went on or
+//!   off. What each of them did, the drive says. It holds of none, and of one call after another (`UnderwentLaws`).
+//!
+//! Why there are two meanings and not one: causes of answers and numbers of uses are said over what is shown, also where the
+//! cells of the medium are not known. And a block whose home is dead or torn keeps its last acknowledged bytes in the disc,
+//! though these can be read nowhere; so the disc is no function of what lies on the medium, and what a drive stands for is a
+//! relation.
+//!
+//! # What each call keeps
+//!
+//! The definitions are in `model_drive/specs`, one file for each call, and `Parts.antt` for what they share.
+//!
+//! - each, `cause`: why it answered so; all of what the drive shows afterwards: uses of the medium, cells that may have changed,
+//!   lists in use, the mark, the buffered blocks.
+//! - `step`: for each thing that the drive stood for, what it stands for now.
+//! - `same_shape`: the geometry stays.
+//! - `underwent`: nothing but events happened to the medium in between, whatever the answer.
+//!
+//! # The trait `Caching`
+//!
+//! A drive with a write cache has the calls of a disc and four more. It shows what its disc shows, the pending blocks and whether
+//! the cache is on (`CacheShown` of `model_cache`), and stands for `Contents`: the disc that is shown, and the older values of
+//! each block. The definitions are in `model_cache/specs`, steps in `Steps.antt` and causes in `Causes.antt`.
+//!
+//! # Laws of the definitions (functions of `model_drive`)
+//!
+//! - **Only tested:** nothing here; `ram_volume_tests` calls a `Volume` through both traits.
+//! - **Neither proved nor tested:** what `into` holds after a read that was not Good, and that `exchange_room` exchanges
+//!   anything, or which bytes a room has then. Both are left open on purpose.
+//! - **Trusted:** the toolchain. A definition that no clause cites says nothing; `make docs` lists who cites each.
+//! - **Stands on:** `model_drive`, `model_cache`, `model_sectors`, `model_commands`, and `ram_bytes` for its `Block`.
+//!
 //! # Answers
 //!
 //! What a drive stands for is a disc of sectors, or with the power off some discs, its candidates. With a write cache (`Caching`)

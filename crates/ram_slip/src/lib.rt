@@ -1,5 +1,18 @@
 //! Slipping: what a block is to a disc, by sums over the zones and the blocks that are slipped, without a list of all data
 //! blocks.
+//!
+//! # What is proved
+//!
+//! No call takes memory.
+//!
+//! # What is neither
+//!
+//! How fast it is. `place_of` and `spare_turn` look at about twelve entries of a list of 4,092, and go over the zones once.
+//!
+//! # What is trusted
+//!
+//! The definitions of `model_places` and `model_geometry`: that they are the numbering that is meant. Slipping is after ECMA-330,
+//! by whole blocks; the rest is this project's own.
 #![tactic(auto)]
 
 mod entries;
