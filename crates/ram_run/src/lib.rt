@@ -12,7 +12,7 @@
 //!
 //! # What is proved
 //!
-//! ### `run`
+//! # The call `run`
 //!
 //! [HEADLINE](../../docs/HEADLINE.md#the-clauses-of-run) has the clauses of `run`. Those on a script speak of `run` or `groups`
 //! and a name, where source, sink, opener and image tell their bytes. With ImageFault the opener may not have been asked at all;
