@@ -1,19 +1,13 @@
 //! What the program does for each form of its words.
 ghost use Rattle.std.specs.Prelude.{◌≡◌, ◌⊎◌, ℕ, List, map};
-ghost use Rattle.ram_run.specs.declared.help.TheConstants.{HELP, VERSION};
-ghost use Rattle.model_geometry.specs.declared.kinds.LayoutKind.{LayoutKind};
-ghost use Rattle.ram_script.specs.Progress.{Beginning};
-ghost use Rattle.ram_script.specs.Completes.{IsInLanguage, BeginsWithDisc, NoneRose, IsComplete};
-ghost use Rattle.ram_run.specs.Words.{IsServedOf, IsServedImage, IsGenerateOf, IsAuditOf, IsCheckOf, IsHelp, IsVersion, UsageRule, MemoryRule};
 ghost use Rattle.ram_outside.specs.declared.opener.Access.TheVariants.{ReadWrite};
-ghost use Rattle.ram_script.specs.Around.{IsNotOpened, UntouchedByUsage, TellsText, AsksOnce, around};
+ghost use Rattle.ram_script.specs.Progress.{Beginning};
+ghost use Rattle.ram_script.specs.Around.{IsNotOpened, AsksOnce, around};
 ghost use Rattle.ram_script.specs.Endings.{IsUnopened, IsOfRun, StandsWith, StatusCounts};
 ghost use Rattle.ram_script.specs.Opened.{IsBeginning, aftermath_of};
-ghost use Rattle.ram_script.specs.Promise.{KeepsBytes};
-ghost use Rattle.ram_summary.specs.Generating.{BeginsFrom, Generates, AsksUnread};
-ghost use Rattle.ram_certificate.specs.Auditing.{Audits, Checks};
-ghost use Rattle.ram_run.specs.Rooms.{AreRoomsFor};
 ghost use Rattle.ram_script.specs.Rooms.{AreReady};
+ghost use Rattle.ram_run.specs.Rooms.{AreRoomsFor};
+ghost use Rattle.ram_run.specs.Promises.{Promises};
 
 use crate::form::{Form, form_of};
 use crate::help::{HELP, VERSION};
@@ -80,64 +74,10 @@ pub fn run<S: Source, K: Sink, O: Opener>(
     opener: &mut O,
 ) -> Status
     requires rooms { AreRoomsFor (map (λ word. word.now) words.now) rooms }
-    ensures memory { MemoryRule result }
-    ensures usage { UsageRule (map (λ word. word.now) words.now) result }
-    ensures untouched { UntouchedByUsage
+    ensures keeps { Promises O.Image.bytes O.returned_known
         (around S.Source K.Sink O.Opener script.old report.old opener.old)
-        (around S.Source K.Sink O.Opener script.new report.new opener.new) result }
-    ensures causes { StatusCounts
-        (around S.Source K.Sink O.Opener script.old report.old opener.old).counts
-        (around S.Source K.Sink O.Opener script.new report.new opener.new).counts result }
-    ensures help { IsHelp (map (λ word. word.now) words.now) → TellsText
-        (around S.Source K.Sink O.Opener script.old report.old opener.old)
-        (around S.Source K.Sink O.Opener script.new report.new opener.new) HELP.now result }
-    ensures version { IsVersion (map (λ word. word.now) words.now) → TellsText
-        (around S.Source K.Sink O.Opener script.old report.old opener.old)
-        (around S.Source K.Sink O.Opener script.new report.new opener.new) VERSION.now result }
-    ensures asks { (kind : LayoutKind) (name : List ℕ)
-        → IsServedOf kind name (map (λ word. word.now) words.now) → AsksOnce
-        (around S.Source K.Sink O.Opener script.old report.old opener.old)
-        (around S.Source K.Sink O.Opener script.new report.new opener.new) ReadWrite name result }
-    ensures generate_asks { (name : List ℕ) (seed : ℕ)
-        → IsGenerateOf name seed (map (λ word. word.now) words.now) → AsksUnread
-        (around S.Source K.Sink O.Opener script.old report.old opener.old)
-        (around S.Source K.Sink O.Opener script.new report.new opener.new) ReadWrite name result }
-    ensures generate { (first : Beginning) (name : List ℕ) (seed : ℕ)
-        → IsGenerateOf name seed (map (λ word. word.now) words.now)
-        → BeginsFrom O.Image.bytes seed first
-        (around S.Source K.Sink O.Opener script.old report.old opener.old) O.returned_known
-        → Generates O.Image.bytes seed first
-        (around S.Source K.Sink O.Opener script.old report.old opener.old)
-        (around S.Source K.Sink O.Opener script.new report.new opener.new) result }
-    ensures audit { (name : List ℕ) → IsAuditOf name (map (λ word. word.now) words.now) → Audits O.Image.bytes
-        (around S.Source K.Sink O.Opener script.old report.old opener.old)
-        (around S.Source K.Sink O.Opener script.new report.new opener.new) O.returned_known name result }
-    ensures check { (name : List ℕ) → IsCheckOf name (map (λ word. word.now) words.now) → Checks O.Image.bytes
-        (around S.Source K.Sink O.Opener script.old report.old opener.old)
-        (around S.Source K.Sink O.Opener script.new report.new opener.new) O.returned_known name result }
-    ensures run { (first : Beginning) → IsServedImage first.kind (map (λ word. word.now) words.now)
-        → IsBeginning O.Image.bytes first
-        (around S.Source K.Sink O.Opener script.old report.old opener.old) O.returned_known
-        → StandsWith first (aftermath_of O.Image.bytes
-        (around S.Source K.Sink O.Opener script.new report.new opener.new))
-        (around S.Source K.Sink O.Opener script.old report.old opener.old).counts
-        (around S.Source K.Sink O.Opener script.new report.new opener.new).counts result
-        ⊎ (IsUnopened result × IsNotOpened
-        (around S.Source K.Sink O.Opener script.old report.old opener.old)
-        (around S.Source K.Sink O.Opener script.new report.new opener.new)) }
-    ensures promise { (first : Beginning) → IsServedImage first.kind (map (λ word. word.now) words.now)
-        → IsBeginning O.Image.bytes first
-        (around S.Source K.Sink O.Opener script.old report.old opener.old) O.returned_known
-        → KeepsBytes first.script first.report first.image
-        (around S.Source K.Sink O.Opener script.new report.new opener.new).written }
-    ensures completes { (first : Beginning) → IsServedImage first.kind (map (λ word. word.now) words.now)
-        → IsBeginning O.Image.bytes first
-        (around S.Source K.Sink O.Opener script.old report.old opener.old) O.returned_known
-        → IsInLanguage first.script → BeginsWithDisc first
-        → NoneRose
-        (around S.Source K.Sink O.Opener script.old report.old opener.old).counts
-        (around S.Source K.Sink O.Opener script.new report.new opener.new).counts
-        → IsComplete result }
+        (around S.Source K.Sink O.Opener script.new report.new opener.new) result
+        (map (λ word. word.now) words.now) }
 {
     match form_of(words) {
         Some(Form::Run(kind, name)) => {
