@@ -29,7 +29,7 @@ use Rattle.model_drive.specs.Reads.{MeetsUnread, ReadCause}
 use Rattle.model_drive.proofs.Ends.{none_stopped}
 use Rattle.model_audit.specs.declared.lines.CertificateLine.{CertificateLine}
 use Rattle.model_audit.specs.declared.lines.CertificateLine.TheVariants as lines
-use Rattle.model_audit.specs.Certificate.{lost_line, lost_lines, list_lines, head_lines, pdl_line, sdl_line, TellsLists, IsCertificate}
+use Rattle.model_audit.specs.Certificate.{lost_home_line, lost_lines, list_lines, head_lines, pdl_line, sdl_line, TellsLists, IsCertificate}
 use Rattle.model_audit.specs.Reading.{lists_in, NoneDies, IsUndisturbed, NoneLost}
 use Rattle.model_audit.proofs.ReadBack.{Tells, told_here, read_from}
 use Rattle.model_audit.proofs.Alike.{chosen_moves, seen_alike, alike_back}
@@ -98,7 +98,7 @@ in_range n i inside = (i, rw (length-range_with_len 0 n) inside, get_or-range_wi
 
 -- a cell that is not good has its line
 lost_here : (shape : Shape) (cells : List Cell) (lists : Lists) (i : ℕ) (cell : Cell) → cell_at cells (home_of shape lists i) ≡ cell
-    → ¬ Contains (lost_line shape cells lists i) (lines.Lost (16 * i)) → IsGood cell
+    → ¬ Contains (lost_home_line shape cells lists i) (lines.Lost (16 * i)) → IsGood cell
 lost_here shape cells lists i (Good bytes) is none = tt
 lost_here shape cells lists i Blank is none = absurd (none (rw is (Contains-first (lines.Lost (16 * i)) [])))
 lost_here shape cells lists i Torn is none = absurd (none (rw is (Contains-first (lines.Lost (16 * i)) [])))
@@ -110,7 +110,7 @@ module _ (shape : Shape) (cells : List Cell) where
   unfolding lost_lines
   lost_listed lists i inside none =
       lost_here shape cells lists i (cell_at cells (home_of shape lists i)) refl
-      (λ has. none (contains_flat (lost_line shape cells lists) (range_with_len 0 (logical_count shape lists)) i (lines.Lost (16 * i)) (in_range (logical_count shape lists) i inside) has))
+      (λ has. none (contains_flat (lost_home_line shape cells lists) (range_with_len 0 (logical_count shape lists)) i (lines.Lost (16 * i)) (in_range (logical_count shape lists) i inside) has))
 
   -- the lines of lost blocks are among all
   lost_told : (told : List CertificateLine) (one : TellsLists shape cells told) (line : CertificateLine)

@@ -15,7 +15,7 @@ use Rattle.model_audit.specs.declared.lines.CopyState.{CopyState}
 use Rattle.model_audit.specs.declared.lines.CopyState.TheVariants.{Exact, Other, Unread, Dead}
 use Rattle.model_audit.specs.declared.lines.CertificateLine.{CertificateLine}
 use Rattle.model_audit.specs.declared.lines.CertificateLine.TheVariants.{Audit, Geometry, Bare, Dds, Pdl, Sdl, Pair, Retired, Copy, Lost, End}
-use Rattle.model_audit.specs.Text.{layout_words, version_word, kind_word, state_word, words_of, spaced, parted, line_text, text_of, HasNumbers, HaveNumbers}
+use Rattle.model_audit.specs.Text.{layout_words, version_word, kind_word, state_word, certificate_words, spaced, parted, certificate_line, text_of, FitsNumbers, HaveNumbers}
 
 -- ---- bytes that are neither a space nor a line feed
 
@@ -185,7 +185,7 @@ state_plain Other = refl
 state_plain Unread = refl
 state_plain Dead = refl
 
-all_plain : (line : CertificateLine) → HasNumbers line → AllPlain (words_of line)
+all_plain : (line : CertificateLine) → FitsNumbers line → AllPlain (certificate_words line)
 unfolding Plain is_plain AllPlain
 all_plain Audit h = (refl, tt)
 all_plain (Geometry zones scale psa layout) h = (refl, (decimal_plain zones h.0, (decimal_plain scale h.1, (decimal_plain psa h.2, layout_plain layout))))
@@ -199,7 +199,7 @@ all_plain (Copy block state) h = (refl, (decimal_plain block h, (state_plain sta
 all_plain (Lost lba) h = (refl, (decimal_plain lba h, tt))
 all_plain (End before) h = (refl, (decimal_plain before h, tt))
 
-some_words : (line : CertificateLine) → 0 < length (words_of line)
+some_words : (line : CertificateLine) → 0 < length (certificate_words line)
 some_words Audit = omega arith
 some_words (Geometry zones scale psa layout) = omega arith
 some_words (Bare mark) = omega arith
@@ -256,7 +256,7 @@ state_same v w h = absurd (let e = ap (λ (l : List ℕ). get_or l 0 0) h in ome
 letters : List (List ℕ) → ℕ
 letters words = 256 * get_or (get_or words 0 []) 0 0 + get_or (get_or words 0 []) 1 0
 
-line_same : (a b : CertificateLine) → HasNumbers a → HasNumbers b → words_of a ≡ words_of b → a ≡ b
+line_same : (a b : CertificateLine) → FitsNumbers a → FitsNumbers b → certificate_words a ≡ certificate_words b → a ≡ b
 unfolding word_at letters
 line_same Audit Audit p q h = refl
 line_same (Geometry a b c k) (Geometry x y z l) p q h =
@@ -280,22 +280,22 @@ line_same a b p q h = absurd (let e = ap letters h in omega (arith, e))
 -- ---- all lines
 
 -- a line before others, up to its line feed
-moved : (line : CertificateLine) (told : List CertificateLine) → flat_map line_text (line ∷ told) ≡ parted (words_of line) ++ 10 ∷ flat_map line_text told
-moved line told = flat_map-cons line_text line told ∙ append_assoc (parted (words_of line)) (10 ∷ []) (flat_map line_text told)
+moved : (line : CertificateLine) (told : List CertificateLine) → flat_map certificate_line (line ∷ told) ≡ parted (certificate_words line) ++ 10 ∷ flat_map certificate_line told
+moved line told = flat_map-cons certificate_line line told ∙ append_assoc (parted (certificate_words line)) (10 ∷ []) (flat_map certificate_line told)
 
-no_text : (line : CertificateLine) (told : List CertificateLine) → [] ≡ flat_map line_text (line ∷ told) → ⊥
-no_text line told h = none (parted (words_of line)) (flat_map line_text told) (h ∙ moved line told)
+no_text : (line : CertificateLine) (told : List CertificateLine) → [] ≡ flat_map certificate_line (line ∷ told) → ⊥
+no_text line told h = none (parted (certificate_words line)) (flat_map certificate_line told) (h ∙ moved line told)
   where
     none : (a b : List ℕ) → [] ≡ a ++ 10 ∷ b → ⊥
     none [] b h = cc
     none (x ∷ a) b h = cc
 
-all_same : (a b : List CertificateLine) → HaveNumbers a → HaveNumbers b → flat_map line_text a ≡ flat_map line_text b → a ≡ b
+all_same : (a b : List CertificateLine) → HaveNumbers a → HaveNumbers b → flat_map certificate_line a ≡ flat_map certificate_line b → a ≡ b
 all_same [] [] p q h = refl
 all_same [] (line ∷ told) p q h = absurd (no_text line told h)
 all_same (line ∷ told) [] p q h = absurd (no_text line told (sym h))
 all_same (line ∷ told) (other ∷ rest) p q h =
-    let same = parted_same (words_of line) (words_of other) (flat_map line_text told) (flat_map line_text rest) (some_words line) (some_words other)
+    let same = parted_same (certificate_words line) (certificate_words other) (flat_map certificate_line told) (flat_map certificate_line rest) (some_words line) (some_words other)
     (all_plain line p.0) (all_plain other q.0) (sym (moved line told) ∙ h ∙ moved other rest) in
     ap₂ (λ (x : CertificateLine) (xs : List CertificateLine). x ∷ xs) (line_same line other p.0 q.0 same.words) (all_same told rest p.1 q.1 same.rest)
 

@@ -93,19 +93,19 @@ AreCopyLines cells lists (place ∷ places) told = (state : CopyState) × (other
 -- ---- the homes
 
 -- whether a cell has whole bytes
-abbrev pub is_good : Cell → Bool
-is_good Blank = false
-is_good (Good bytes) = true
-is_good Torn = false
-is_good Dead = false
+abbrev pub is_whole : Cell → Bool
+is_whole Blank = false
+is_whole (Good bytes) = true
+is_whole Torn = false
+is_whole Dead = false
 
 -- the line of a logical block, where its home has no whole bytes
-abbrev pub lost_line : Shape → List Cell → Lists → (i : ℕ) → List CertificateLine
-lost_line shape cells lists i = if is_good (cell_at cells (home_of shape lists i)) then [] else (lines.Lost (16 * i) ∷ [])
+abbrev pub lost_home_line : Shape → List Cell → Lists → (i : ℕ) → List CertificateLine
+lost_home_line shape cells lists i = if is_whole (cell_at cells (home_of shape lists i)) then [] else (lines.Lost (16 * i) ∷ [])
 
 -- the lines of all such blocks, rising
 unfoldable pub lost_lines : Shape → List Cell → Lists → List CertificateLine
-lost_lines shape cells lists = flat_map (lost_line shape cells lists) (range_with_len 0 (logical_count shape lists))
+lost_lines shape cells lists = flat_map (lost_home_line shape cells lists) (range_with_len 0 (logical_count shape lists))
 
 -- ---- the whole
 

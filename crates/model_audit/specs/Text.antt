@@ -36,19 +36,19 @@ state_word states.Unread = codes "unread"
 state_word states.Dead = codes "dead"
 
 -- the words of a line
-abbrev pub words_of : CertificateLine → List (List ℕ)
-words_of lines.Audit = codes "audit" ∷ []
-words_of (lines.Geometry zones scale psa layout) =
+abbrev pub certificate_words : CertificateLine → List (List ℕ)
+certificate_words lines.Audit = codes "audit" ∷ []
+certificate_words (lines.Geometry zones scale psa layout) =
     codes "geometry" ∷ (decimal zones ∷ (decimal scale ∷ (decimal psa ∷ layout_words layout)))
-words_of (lines.Bare mark) = codes "bare" ∷ (decimal mark ∷ [])
-words_of (lines.Dds version counter area) = codes "dds" ∷ (version_word version ∷ (decimal counter ∷ (decimal area ∷ [])))
-words_of (lines.Pdl block kind) = codes "pdl" ∷ (decimal block ∷ (kind_word kind ∷ []))
-words_of (lines.Sdl counter area ssa) = codes "sdl" ∷ (decimal counter ∷ (decimal area ∷ (decimal ssa ∷ [])))
-words_of (lines.Pair defective replacement) = codes "pair" ∷ (decimal defective ∷ (decimal replacement ∷ []))
-words_of (lines.Retired defective) = codes "retired" ∷ (decimal defective ∷ [])
-words_of (lines.Copy block state) = codes "copy" ∷ (decimal block ∷ (state_word state ∷ []))
-words_of (lines.Lost lba) = codes "lost" ∷ (decimal lba ∷ [])
-words_of (lines.End before) = codes "end" ∷ (decimal before ∷ [])
+certificate_words (lines.Bare mark) = codes "bare" ∷ (decimal mark ∷ [])
+certificate_words (lines.Dds version counter area) = codes "dds" ∷ (version_word version ∷ (decimal counter ∷ (decimal area ∷ [])))
+certificate_words (lines.Pdl block kind) = codes "pdl" ∷ (decimal block ∷ (kind_word kind ∷ []))
+certificate_words (lines.Sdl counter area ssa) = codes "sdl" ∷ (decimal counter ∷ (decimal area ∷ (decimal ssa ∷ [])))
+certificate_words (lines.Pair defective replacement) = codes "pair" ∷ (decimal defective ∷ (decimal replacement ∷ []))
+certificate_words (lines.Retired defective) = codes "retired" ∷ (decimal defective ∷ [])
+certificate_words (lines.Copy block state) = codes "copy" ∷ (decimal block ∷ (state_word state ∷ []))
+certificate_words (lines.Lost lba) = codes "lost" ∷ (decimal lba ∷ [])
+certificate_words (lines.End before) = codes "end" ∷ (decimal before ∷ [])
 
 -- the words behind the first, each after a space
 abbrev pub spaced : List (List ℕ) → List ℕ
@@ -61,28 +61,28 @@ parted [] = []
 parted (word ∷ words) = word ++ spaced words
 
 -- a line is its words, parted by one space, and a line feed
-abbrev pub line_text : CertificateLine → List ℕ
-line_text line = parted (words_of line) ++ codes "\n"
+abbrev pub certificate_line : CertificateLine → List ℕ
+certificate_line line = parted (certificate_words line) ++ codes "\n"
 
 -- the text of all lines
 unfoldable pub text_of : List CertificateLine → List ℕ
-text_of told = flat_map line_text told
+text_of told = flat_map certificate_line told
 
 -- the numbers of a line have 64 bits
-abbrev pub HasNumbers : CertificateLine → Type 0
-HasNumbers lines.Audit = Unit {0}
-HasNumbers (lines.Geometry zones scale psa layout) = (zones < 2 ^ 64) × (scale < 2 ^ 64) × (psa < 2 ^ 64)
-HasNumbers (lines.Bare mark) = mark < 2 ^ 64
-HasNumbers (lines.Dds version counter area) = (counter < 2 ^ 64) × (area < 2 ^ 64)
-HasNumbers (lines.Pdl block kind) = block < 2 ^ 64
-HasNumbers (lines.Sdl counter area ssa) = (counter < 2 ^ 64) × (area < 2 ^ 64) × (ssa < 2 ^ 64)
-HasNumbers (lines.Pair defective replacement) = (defective < 2 ^ 64) × (replacement < 2 ^ 64)
-HasNumbers (lines.Retired defective) = defective < 2 ^ 64
-HasNumbers (lines.Copy block state) = block < 2 ^ 64
-HasNumbers (lines.Lost lba) = lba < 2 ^ 64
-HasNumbers (lines.End before) = before < 2 ^ 64
+abbrev pub FitsNumbers : CertificateLine → Type 0
+FitsNumbers lines.Audit = Unit {0}
+FitsNumbers (lines.Geometry zones scale psa layout) = (zones < 2 ^ 64) × (scale < 2 ^ 64) × (psa < 2 ^ 64)
+FitsNumbers (lines.Bare mark) = mark < 2 ^ 64
+FitsNumbers (lines.Dds version counter area) = (counter < 2 ^ 64) × (area < 2 ^ 64)
+FitsNumbers (lines.Pdl block kind) = block < 2 ^ 64
+FitsNumbers (lines.Sdl counter area ssa) = (counter < 2 ^ 64) × (area < 2 ^ 64) × (ssa < 2 ^ 64)
+FitsNumbers (lines.Pair defective replacement) = (defective < 2 ^ 64) × (replacement < 2 ^ 64)
+FitsNumbers (lines.Retired defective) = defective < 2 ^ 64
+FitsNumbers (lines.Copy block state) = block < 2 ^ 64
+FitsNumbers (lines.Lost lba) = lba < 2 ^ 64
+FitsNumbers (lines.End before) = before < 2 ^ 64
 
 -- the numbers of all lines have
 abbrev pub HaveNumbers : List CertificateLine → Type 0
 HaveNumbers [] = Unit {0}
-HaveNumbers (line ∷ told) = HasNumbers line × HaveNumbers told
+HaveNumbers (line ∷ told) = FitsNumbers line × HaveNumbers told

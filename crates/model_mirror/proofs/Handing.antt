@@ -43,7 +43,7 @@ module _ (new : MirrorShown) (lead other : Standing → Type 0) (down : new.up �
   pub stands_off : (discs : List (List ℕ)) → lead (Off discs) → MirrorStands new lead other (Off discs)
   stands_off discs so = (so, some)
 
-  pub alone_read : (disc : List ℕ) (lba n : ℕ) (into : List ℕ) (out : ReadOut) → (read_causes.is_stop out ≡ false → new.on ≡ true) → ReadStep lead (On disc) lba n into out
+  pub alone_read : (disc : List ℕ) (lba n : ℕ) (into : List ℕ) (out : ReadOut) → (read_causes.read_is_stopped out ≡ false → new.on ≡ true) → ReadStep lead (On disc) lba n into out
       → ReadStep (MirrorStands new lead other) (On disc) lba n into out
   alone_read disc lba n into reads.Good on step = (step.0, stands_alone (on refl) disc step.1)
   alone_read disc lba n into reads.NotFormatted on step = (step.0, stands_alone (on refl) disc step.1)
@@ -53,7 +53,7 @@ module _ (new : MirrorShown) (lead other : Standing → Type 0) (down : new.up �
   alone_read disc lba n into reads.Off on step = step
   alone_read disc lba n into reads.Fault on step = stands_off (disc ∷ []) step
 
-  pub alone_write : (shown : Shown) (disc : List ℕ) (lba n : ℕ) (bytes : List ℕ) (out : WriteOut) → (write_causes.is_stop out ≡ false → new.on ≡ true) → WriteStep shown lead (On disc) lba n bytes out
+  pub alone_write : (shown : Shown) (disc : List ℕ) (lba n : ℕ) (bytes : List ℕ) (out : WriteOut) → (write_causes.write_is_stopped out ≡ false → new.on ≡ true) → WriteStep shown lead (On disc) lba n bytes out
       → WriteStep shown (MirrorStands new lead other) (On disc) lba n bytes out
   alone_write shown disc lba n bytes writes.Good on step = stands_alone (on refl) _ step
   alone_write shown disc lba n bytes writes.NotFormatted on step = (step.0, stands_alone (on refl) disc step.1)
@@ -67,8 +67,8 @@ module _ (new : MirrorShown) (lead other : Standing → Type 0) (down : new.up �
 
 -- All was read, or written, by the side that had taken the lead.
 module _ (mid new : MirrorShown) (lead other : Standing → Type 0) where
-  pub read_elsewhere : (out : ReadOut) → new ≡ read_causes.after_alone out (led_by (handed_over mid) new.lead)
-      → (new.up ≡ false) × (read_causes.is_stop out ≡ false → new.on ≡ true)
+  pub read_elsewhere : (out : ReadOut) → new ≡ read_causes.after_lone_read out (led_by (handed_over mid) new.lead)
+      → (new.up ≡ false) × (read_causes.read_is_stopped out ≡ false → new.on ≡ true)
   read_elsewhere reads.Good is = (ap (λ (s : MirrorShown). s.up) is, λ go. ap (λ (s : MirrorShown). s.on) is)
   read_elsewhere reads.NotFormatted is = (ap (λ (s : MirrorShown). s.up) is, λ go. ap (λ (s : MirrorShown). s.on) is)
   read_elsewhere (reads.Range known) is = (ap (λ (s : MirrorShown). s.up) is, λ go. ap (λ (s : MirrorShown). s.on) is)
@@ -77,8 +77,8 @@ module _ (mid new : MirrorShown) (lead other : Standing → Type 0) where
   read_elsewhere reads.Off is = (ap (λ (s : MirrorShown). s.up) is, λ go. ap (λ (s : MirrorShown). s.on) is)
   read_elsewhere reads.Fault is = (ap (λ (s : MirrorShown). s.up) is, λ go. absurd (let w = go in cc))
 
-  pub write_elsewhere : (out : WriteOut) → new ≡ write_causes.after_alone out (led_by (handed_over mid) new.lead)
-      → (new.up ≡ false) × (write_causes.is_stop out ≡ false → new.on ≡ true)
+  pub write_elsewhere : (out : WriteOut) → new ≡ write_causes.after_lone_write out (led_by (handed_over mid) new.lead)
+      → (new.up ≡ false) × (write_causes.write_is_stopped out ≡ false → new.on ≡ true)
   write_elsewhere writes.Good is = (ap (λ (s : MirrorShown). s.up) is, λ go. ap (λ (s : MirrorShown). s.on) is)
   write_elsewhere writes.NotFormatted is = (ap (λ (s : MirrorShown). s.up) is, λ go. ap (λ (s : MirrorShown). s.on) is)
   write_elsewhere (writes.Range known) is = (ap (λ (s : MirrorShown). s.up) is, λ go. ap (λ (s : MirrorShown). s.on) is)

@@ -12,7 +12,7 @@ use Rattle.model_drive.specs.Parts.{IsInRange}
 use Rattle.model_drive.specs.Writes.{WriteCause, WriteStep}
 use Rattle.model_cache.specs.Falling.{LiesIn}
 use Rattle.model_mirror.specs.Table.{AreMarked, is_covered, is_covered_before}
-use Rattle.model_mirror.specs.Shown.{MirrorShown, led_by, turned_off, may_lead, handed_over}
+use Rattle.model_mirror.specs.Shown.{MirrorShown, led_by, mirror_turned_off, may_lead, handed_over}
 use Rattle.model_mirror.specs.Standing.{HasCopy, StandsSomehow, IsFollowed, MirrorStands}
 use Rattle.model_mirror.specs.Writes.{WritesSide, OtherEnds}
 use Rattle.model_mirror.specs.Writes as write_causes
@@ -159,7 +159,7 @@ module _ (lba n : ℕ) (bytes : List ℕ) (old : MirrorShown) (on : old.on ≡ t
     good_write_alone lead' down step (Off discs) stood = step (Off discs) (off_lead discs stood)
 
     -- it was stopped, and the other side takes the lead: what that makes of the disc is what the mirror makes of it
-    pub elsewhere_write : (lead' new_lead : Standing → Type 0) (out : WriteOut) → may_lead mid ≡ true → StandsSomehow lead' → new ≡ write_causes.after_alone out (led_by (handed_over mid) new.lead)
+    pub elsewhere_write : (lead' new_lead : Standing → Type 0) (out : WriteOut) → may_lead mid ≡ true → StandsSomehow lead' → new ≡ write_causes.after_lone_write out (led_by (handed_over mid) new.lead)
         → ((s : Standing) → other s → WriteStep new.lead new_lead s lba n bytes out) → (disc : List ℕ) → MirrorStands old lead other (On disc)
         → WriteStep new.lead (MirrorStands new new_lead lead') (On disc) lba n bytes out
     elsewhere_write lead' new_lead out may some is step disc (_, so, followed) =
@@ -167,7 +167,7 @@ module _ (lba n : ℕ) (bytes : List ℕ) (old : MirrorShown) (on : old.on ≡ t
         alone_write new new_lead lead' ends.0 some new.lead disc lba n bytes out ends.1 (step (On disc) (takes_the_lead mid other disc (mid_followed disc followed) may))
 
     -- it was stopped, and the mirror is off
-    pub stopped_write : (lead' : Standing → Type 0) (out : WriteOut) → write_causes.is_stop out ≡ true → new ≡ turned_off mid
+    pub stopped_write : (lead' : Standing → Type 0) (out : WriteOut) → write_causes.write_is_stopped out ≡ true → new ≡ mirror_turned_off mid
         → ((s : Standing) → lead s → WriteStep mid.lead lead' s lba n bytes out) → (s : Standing) → MirrorStands old lead other s
         → WriteStep mid.lead (MirrorStands new lead' other) s lba n bytes out
     stopped_write lead' writes.Cut stop is step (On disc) (_, so, followed) =

@@ -6,7 +6,7 @@ use Rattle.model_sectors.specs.declared.ReadOut.{ReadOut}
 use Rattle.model_sectors.specs.declared.ReadOut.TheVariants as outs
 use Rattle.model_drive.specs.Parts.{IsInRange}
 use Rattle.model_cache.specs.Chains.{ReadsDisc}
-use Rattle.model_mirror.specs.Shown.{MirrorShown, stands_in, may_lead, handed_over, turned_off, led_by}
+use Rattle.model_mirror.specs.Shown.{MirrorShown, stands_in, may_lead, handed_over, mirror_turned_off, led_by}
 
 -- the lead was read, and it went so
 abbrev pub LeadReads : MirrorShown → MirrorShown → (lba n : ℕ) → ReadOut → Type 0
@@ -39,73 +39,73 @@ module _ (mid new : MirrorShown) (lba n block : ℕ) where
   EndsPart told out = (new ≡ mid) × (out ≡ told)
 
 -- The sectors of one block were read.
-pub record ReadsPart (old new : MirrorShown) (lba n block : ℕ) (out : ReadOut) : Type 0 where
+pub record MirrorReadsPart (old new : MirrorShown) (lba n block : ℕ) (out : ReadOut) : Type 0 where
   pub mid : MirrorShown
   pub told : ReadOut
   pub reads : LeadReads old mid (start_in lba block) (end_in lba n block - start_in lba block) told
   pub ends : EndsPart mid new lba n block told out
 
 -- those of the first n blocks were, in rising order
-abbrev pub ReadsParts : MirrorShown → MirrorShown → (lba n : ℕ) → ℕ → Type 0
-ReadsParts old new lba n zero = new ≡ old
-ReadsParts old new lba n (suc k) = (mid : MirrorShown) × ReadsParts old mid lba n k
-    × ReadsPart mid new lba n (block_with lba + k) outs.Good
+abbrev pub MirrorReadsParts : MirrorShown → MirrorShown → (lba n : ℕ) → ℕ → Type 0
+MirrorReadsParts old new lba n zero = new ≡ old
+MirrorReadsParts old new lba n (suc k) = (mid : MirrorShown) × MirrorReadsParts old mid lba n k
+    × MirrorReadsPart mid new lba n (block_with lba + k) outs.Good
 
 -- the read ended at one block
-pub record EndsReading (old new : MirrorShown) (lba n : ℕ) (out : ReadOut) : Type 0 where
+pub record EndsMirrorRead (old new : MirrorShown) (lba n : ℕ) (out : ReadOut) : Type 0 where
   pub inside : IsInRange old.lead lba n
   pub before : ℕ
   pub covered : before < blocks_covered lba n
   pub mid : MirrorShown
-  pub parts : ReadsParts old mid lba n before
-  pub ends : ReadsPart mid new lba n (block_with lba + before) out
+  pub parts : MirrorReadsParts old mid lba n before
+  pub ends : MirrorReadsPart mid new lba n (block_with lba + before) out
 
 -- A read by the side that leads, with the other one beside it.
 abbrev pub ReadsLed : MirrorShown → MirrorShown → (lba n : ℕ) → ReadOut → Type 0
-ReadsLed old new lba n outs.Good = IsInRange old.lead lba n × ReadsParts old new lba n (blocks_covered lba n)
+ReadsLed old new lba n outs.Good = IsInRange old.lead lba n × MirrorReadsParts old new lba n (blocks_covered lba n)
 ReadsLed old new lba n outs.NotFormatted = LeadReads old new lba n outs.NotFormatted
 ReadsLed old new lba n (outs.Range known) = LeadReads old new lba n (outs.Range known)
-ReadsLed old new lba n (outs.Unread named block) = EndsReading old new lba n (outs.Unread named block)
-ReadsLed old new lba n outs.Cut = EndsReading old new lba n outs.Cut
+ReadsLed old new lba n (outs.Unread named block) = EndsMirrorRead old new lba n (outs.Unread named block)
+ReadsLed old new lba n outs.Cut = EndsMirrorRead old new lba n outs.Cut
 ReadsLed old new lba n outs.Off = LeadReads old new lba n outs.Off
-ReadsLed old new lba n outs.Fault = EndsReading old new lba n outs.Fault
+ReadsLed old new lba n outs.Fault = EndsMirrorRead old new lba n outs.Fault
 
 -- whether the side that was read has its power off by a cut or a fault
-abbrev pub is_stop : ReadOut → Bool
-is_stop outs.Cut = true
-is_stop outs.Fault = true
-is_stop _ = false
+abbrev pub read_is_stopped : ReadOut → Bool
+read_is_stopped outs.Cut = true
+read_is_stopped outs.Fault = true
+read_is_stopped _ = false
 
 -- what a read by a lead alone leaves: a mirror that is off where it was stopped
-abbrev pub after_alone : ReadOut → MirrorShown → MirrorShown
-after_alone outs.Cut shown = turned_off shown
-after_alone outs.Fault shown = turned_off shown
-after_alone _ shown = shown
+abbrev pub after_lone_read : ReadOut → MirrorShown → MirrorShown
+after_lone_read outs.Cut shown = mirror_turned_off shown
+after_lone_read outs.Fault shown = mirror_turned_off shown
+after_lone_read _ shown = shown
 
 -- The lead was stopped. The other side may lead: it does, and all is read there. Else the mirror is off.
 pub record ReadsElsewhere (old new : MirrorShown) (lba n : ℕ) (out : ReadOut) : Type 0 where
   pub mid : MirrorShown
   pub lost : ReadOut
-  pub stopped : is_stop lost ≡ true
+  pub stopped : read_is_stopped lost ≡ true
   pub led : ReadsLed old mid lba n lost
   pub may : may_lead mid ≡ true
   pub reads : ReadsDisc mid.other new.lead lba n out
-  pub new_is : new ≡ after_alone out (led_by (handed_over mid) new.lead)
+  pub new_is : new ≡ after_lone_read out (led_by (handed_over mid) new.lead)
 
 -- The lead was stopped, and the other side may not lead: the mirror is off.
 pub record ReadStopped (old new : MirrorShown) (lba n : ℕ) (out : ReadOut) : Type 0 where
   pub mid : MirrorShown
-  pub stopped : is_stop out ≡ true
+  pub stopped : read_is_stopped out ≡ true
   pub led : ReadsLed old mid lba n out
   pub may_not : may_lead mid ≡ false
-  pub new_is : new ≡ turned_off mid
+  pub new_is : new ≡ mirror_turned_off mid
 
 -- the read of a mirror that is on
-abbrev pub ReadsOn : MirrorShown → MirrorShown → (lba n : ℕ) → ReadOut → Type 0
-ReadsOn old new lba n out = ((is_stop out ≡ false) × ReadsLed old new lba n out)
+abbrev pub ReadsWithSides : MirrorShown → MirrorShown → (lba n : ℕ) → ReadOut → Type 0
+ReadsWithSides old new lba n out = ((read_is_stopped out ≡ false) × ReadsLed old new lba n out)
     ⊎ ReadsElsewhere old new lba n out ⊎ ReadStopped old new lba n out
 
 -- The cause of each answer of a read of n sectors from lba on, and what the mirror shows then.
 abbrev pub MirrorReadCause : MirrorShown → MirrorShown → (lba n : ℕ) → ReadOut → Type 0
 MirrorReadCause old new lba n out =
-    MatchBool old.on (ReadsOn old new lba n out) ((out ≡ outs.Off) × (new ≡ old))
+    MatchBool old.on (ReadsWithSides old new lba n out) ((out ≡ outs.Off) × (new ≡ old))

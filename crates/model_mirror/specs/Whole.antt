@@ -15,7 +15,7 @@ use Rattle.model_drive.specs.Formats.{FormatCause}
 use Rattle.model_mirror.specs.declared.Resync.{Resync}
 use Rattle.model_mirror.specs.declared.Resync.TheVariants as resyncs
 use Rattle.model_mirror.specs.Table.{AreMarked, is_apart, count_apart, is_block}
-use Rattle.model_mirror.specs.Shown.{MirrorShown, turned_off, led_by}
+use Rattle.model_mirror.specs.Shown.{MirrorShown, mirror_turned_off, led_by}
 use Rattle.model_mirror.specs.Reads.{LeadReads}
 use Rattle.model_mirror.specs.Writes.{WritesSide}
 
@@ -101,7 +101,7 @@ pub record FormatsLead (old new : MirrorShown) (out : FormatOut) : Type 0 where
 pub record FormatStopped (old new : MirrorShown) (out : FormatOut) : Type 0 where
   pub mid : MirrorShown
   pub lead : LeadFormats old mid out
-  pub new_is : new ≡ turned_off mid
+  pub new_is : new ≡ mirror_turned_off mid
 
 -- the format of a mirror that is on
 abbrev pub FormatsOn : MirrorShown → MirrorShown → FormatOut → Type 0
@@ -175,7 +175,7 @@ pub record ResyncStopped (old new : MirrorShown) (told : ReadOut) : Type 0 where
   pub due : is_to_copy mid before ≡ true
   pub late : MirrorShown
   pub reads : LeadReads mid late (16 * before) 16 told
-  pub new_is : new ≡ turned_off late
+  pub new_is : new ≡ mirror_turned_off late
 
 -- the resynchronisation of a mirror that is on
 abbrev pub ResyncsOn : MirrorShown → MirrorShown → Resync → Type 0

@@ -6,7 +6,7 @@ use Rattle.model_drive.specs.Shown.{Shown}
 use Rattle.model_drive.specs.Writes.{WriteCause}
 use Rattle.model_cache.specs.Chains.{LeavesSound}
 use Rattle.model_mirror.specs.Table.{AreMarked, is_covered, is_wholly_covered, is_covered_before, is_covered_from}
-use Rattle.model_mirror.specs.Shown.{MirrorShown, may_lead, handed_over, turned_off, led_by}
+use Rattle.model_mirror.specs.Shown.{MirrorShown, may_lead, handed_over, mirror_turned_off, led_by}
 
 -- a side was written, and it went so
 pub record WritesSide (old new : Shown) (lba n : ℕ) (out : WriteOut) : Type 0 where
@@ -63,41 +63,41 @@ WritesLed old new lba n (outs.NoUpdate counter) =
 WritesLed old new lba n out = LeadWrites old new lba n out
 
 -- whether the side that was written has its power off by a cut or a fault
-abbrev pub is_stop : WriteOut → Bool
-is_stop outs.Cut = true
-is_stop outs.Fault = true
-is_stop _ = false
+abbrev pub write_is_stopped : WriteOut → Bool
+write_is_stopped outs.Cut = true
+write_is_stopped outs.Fault = true
+write_is_stopped _ = false
 
 -- what a write by a lead alone leaves: a mirror that is off where it was stopped
-abbrev pub after_alone : WriteOut → MirrorShown → MirrorShown
-after_alone outs.Cut shown = turned_off shown
-after_alone outs.Fault shown = turned_off shown
-after_alone _ shown = shown
+abbrev pub after_lone_write : WriteOut → MirrorShown → MirrorShown
+after_lone_write outs.Cut shown = mirror_turned_off shown
+after_lone_write outs.Fault shown = mirror_turned_off shown
+after_lone_write _ shown = shown
 
 -- The lead was stopped. The other side may lead: it does, and all is written there. Else the mirror is off.
 pub record WritesElsewhere (old new : MirrorShown) (lba n : ℕ) (out : WriteOut) : Type 0 where
   pub mid : MirrorShown
   pub lost : WriteOut
-  pub stopped : is_stop lost ≡ true
+  pub stopped : write_is_stopped lost ≡ true
   pub led : LeadWrites old mid lba n lost
   pub may : may_lead mid ≡ true
   pub wrote : WritesSide mid.other new.lead lba n out
-  pub new_is : new ≡ after_alone out (led_by (handed_over mid) new.lead)
+  pub new_is : new ≡ after_lone_write out (led_by (handed_over mid) new.lead)
 
 -- The lead was stopped, and the other side may not lead: the mirror is off.
 pub record WriteStopped (old new : MirrorShown) (lba n : ℕ) (out : WriteOut) : Type 0 where
   pub mid : MirrorShown
-  pub stopped : is_stop out ≡ true
+  pub stopped : write_is_stopped out ≡ true
   pub led : LeadWrites old mid lba n out
   pub may_not : may_lead mid ≡ false
-  pub new_is : new ≡ turned_off mid
+  pub new_is : new ≡ mirror_turned_off mid
 
 -- the write of a mirror that is on
-abbrev pub WritesOn : MirrorShown → MirrorShown → (lba n : ℕ) → WriteOut → Type 0
-WritesOn old new lba n out = ((is_stop out ≡ false) × WritesLed old new lba n out)
+abbrev pub WritesWithSides : MirrorShown → MirrorShown → (lba n : ℕ) → WriteOut → Type 0
+WritesWithSides old new lba n out = ((write_is_stopped out ≡ false) × WritesLed old new lba n out)
     ⊎ WritesElsewhere old new lba n out ⊎ WriteStopped old new lba n out
 
 -- The cause of each answer of a write of n sectors from lba on, and what the mirror shows then.
 abbrev pub MirrorWriteCause : MirrorShown → MirrorShown → (lba n : ℕ) → WriteOut → Type 0
 MirrorWriteCause old new lba n out =
-    MatchBool old.on (WritesOn old new lba n out) ((out ≡ outs.Off) × (new ≡ old))
+    MatchBool old.on (WritesWithSides old new lba n out) ((out ≡ outs.Off) × (new ≡ old))

@@ -16,7 +16,7 @@ use Rattle.model_cache.specs.Shown.{CacheShown}
 use Rattle.model_scrub.specs.declared.ends.StepEnd.{StepEnd}
 use Rattle.model_scrub.specs.declared.ends.StepEnd.TheVariants.{Readable, Unreadable, NotFormatted, Cut, Off, Fault}
 use Rattle.model_scrub.specs.declared.ends.PassEnd.TheVariants as passes
-use Rattle.model_scrub.specs.Scrubs.{Scrubber, begun_on, read_well, met_unread, with_block}
+use Rattle.model_scrub.specs.Scrubs.{Scrubber, begun_on, read_well, met_unread, with_found}
 use Rattle.model_scrub.specs.Asks.{StepRule, StepsThrough, EndsAs, PassRule, AreUnreadNow}
 use Rattle.model_scrub.proofs.Rising.{in_with_block, with_block_there, with_block_keeps, in_without_block, without_block_keeps, in_below, below_keeps}
 
@@ -122,7 +122,7 @@ module _ (old : CacheShown) (lists : Lists) (in_use : old.drive.lists ≡ Some l
             | inl same ↦ (
               (λ has. subst (λ (x : ℕ). ¬ IsGood (cell_now new x)) (sym same) here),
               (λ bad. subst (λ (s : Scrubber). Contains s.found j) (sym leaves)
-                  (subst (Contains (with_block begun.next begun.found)) (sym (same ∙ sym next_is)) (with_block_there begun.next begun.found))),
+                  (subst (Contains (with_found begun.next begun.found)) (sym (same ∙ sym next_is)) (with_block_there begun.next begun.found))),
             )
             | inr apart ↦ (let before = went.seen j (omega (arith, h, apart)) in
                 let other : cell_now new j ≡ cell_now mid j =

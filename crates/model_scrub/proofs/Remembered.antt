@@ -5,7 +5,7 @@ use Rattle.std.specs.List.Sorted.{IsStrictlyIncreasing}
 use Rattle.std.proofs.lemmas.List.Kept.{IsStrictlyIncreasing-filter}
 use Rattle.model_scrub.specs.declared.ends.StepEnd.{StepEnd}
 use Rattle.model_scrub.specs.declared.ends.StepEnd.TheVariants.{Readable, Unreadable, NotFormatted, Cut, Off, Fault}
-use Rattle.model_scrub.specs.Scrubs.{Scrubber, begun_on, with_block, Leaves, LeavesOn, ScrubEvent, Stepped, Began, Scrubs, IsRemembered, SaysUnread, SaysRead}
+use Rattle.model_scrub.specs.Scrubs.{Scrubber, begun_on, with_found, Leaves, LeavesOn, ScrubEvent, Stepped, Began, Scrubs, IsRemembered, SaysUnread, SaysRead}
 use Rattle.model_scrub.proofs.Rising.{rises-with_block, in_with_block, with_block_there, with_block_keeps, in_without_block, without_block_keeps, in_below, below_keeps}
 
 -- ---- in order
@@ -68,7 +68,7 @@ adds_up count s (Unreadable i) t j leaves = (
     | inr there ↦ (let low = in_below count j s.found there in inr (low.1, low.0, λ no. no))
   ]),
   (λ are. subst (λ (x : Scrubber). Contains x.found j) (sym leaves.2) (elim are [
-    | inl same ↦ subst (Contains (with_block (begun_on count s).next (begun_on count s).found)) (sym (same ∙ leaves.0)) (with_block_there (begun_on count s).next (begun_on count s).found)
+    | inl same ↦ subst (Contains (with_found (begun_on count s).next (begun_on count s).found)) (sym (same ∙ leaves.0)) (with_block_there (begun_on count s).next (begun_on count s).found)
     | inr h ↦ with_block_keeps (begun_on count s).next (begun_on count s).found j (below_keeps count j s.found h.1 h.0)
   ])),
 )

@@ -6,7 +6,7 @@ use Rattle.std.proofs.lemmas.List.Elements.{Contains-append_cases, Contains-appe
 use Rattle.std.proofs.lemmas.List.Kept.{IsStrictlyIncreasing-filter}
 use Rattle.model_pools.proofs.Listed.{Contains-filter, Contains-from_filter}
 use Rattle.model_pools.proofs.Zoned.{rises_behind}
-use Rattle.model_scrub.specs.Scrubs.{with_block, without_block}
+use Rattle.model_scrub.specs.Scrubs.{with_found, without_block}
 
 module _ (i : ℕ) (found : List ℕ) where
   abbrev lower : List ℕ
@@ -20,7 +20,7 @@ module _ (i : ℕ) (found : List ℕ) where
   least_first j (suc k, within, is) =
       let h = ltb-true i j (Contains-from_filter (λ x. nat_lt i x) found j (k, omega (arith, within), is)).0 in omega (arith, h)
 
-  pub rises-with_block : IsStrictlyIncreasing found → IsStrictlyIncreasing (with_block i found)
+  pub rises-with_block : IsStrictlyIncreasing found → IsStrictlyIncreasing (with_found i found)
   rises-with_block rise =
       rises_behind lower (i ∷ higher) (IsStrictlyIncreasing-filter (λ j. nat_lt j i) found rise)
       (rises_behind (i ∷ []) higher (λ k within. absurd (omega (arith, within))) (IsStrictlyIncreasing-filter (λ j. nat_lt i j) found rise) first)
@@ -30,7 +30,7 @@ module _ (i : ℕ) (found : List ℕ) where
       first x y (zero, within, is) high = let h = ltb-true i y (Contains-from_filter (λ j. nat_lt i j) found y high).0 in omega (arith, is, h)
       first x y (suc k, within, is) high = absurd (omega (arith, within))
 
-  pub in_with_block : (j : ℕ) → Contains (with_block i found) j → (j ≡ i) ⊎ Contains found j
+  pub in_with_block : (j : ℕ) → Contains (with_found i found) j → (j ≡ i) ⊎ Contains found j
   in_with_block j has = elim (Contains-append_cases lower (i ∷ higher) j has) [
     | inl low ↦ inr (Contains-from_filter (λ x. nat_lt x i) found j low).1
     | inr rest ↦ first_or_later rest
@@ -40,12 +40,12 @@ module _ (i : ℕ) (found : List ℕ) where
       first_or_later (zero, within, is) = inl (sym is)
       first_or_later (suc k, within, is) = inr (Contains-from_filter (λ x. nat_lt i x) found j (k, omega (arith, within), is)).1
 
-  pub with_block_there : Contains (with_block i found) i
+  pub with_block_there : Contains (with_found i found) i
   with_block_there = Contains-append_right lower (i ∷ higher) i (0, omega arith, refl)
 
-  pub with_block_keeps : (j : ℕ) → Contains found j → Contains (with_block i found) j
+  pub with_block_keeps : (j : ℕ) → Contains found j → Contains (with_found i found) j
   with_block_keeps j has = elim (cases_eq j i) [
-    | inl same ↦ subst (Contains (with_block i found)) (sym same) with_block_there
+    | inl same ↦ subst (Contains (with_found i found)) (sym same) with_block_there
     | inr apart ↦ elim (cases_lt j i) [
       | inl low ↦ Contains-append_left lower (i ∷ higher) j (Contains-filter (λ x. nat_lt x i) found j (lt-ltb j i low) has)
       | inr high ↦ Contains-append_right lower (i ∷ higher) j

@@ -12,7 +12,7 @@ use Rattle.model_scrub.specs.declared.ends.StepEnd.{StepEnd}
 use Rattle.model_scrub.specs.declared.ends.StepEnd.TheVariants as ends
 use Rattle.model_scrub.specs.declared.ends.PassEnd.{PassEnd}
 use Rattle.model_scrub.specs.declared.ends.PassEnd.TheVariants as passes
-use Rattle.model_scrub.specs.Scrubs.{Scrubber, Stepped, LeavesBy, begun_on}
+use Rattle.model_scrub.specs.Scrubs.{Scrubber, Stepped, LeavesByEvent, begun_on}
 
 -- The verification of one whole block that could not be read, whatever home is named.
 abbrev pub MeetsUnreadBlock : CacheShown → CacheShown → (i : ℕ) → Type 0
@@ -33,12 +33,12 @@ pub record StepsOn (old new : CacheShown) (s : Scrubber) (end : StepEnd) (t : Sc
   pub formatted : IsFormatted old.drive
   pub same_shape : new.drive.shape ≡ old.drive.shape
   pub asks : AsksOn old new (begun_on (block_count old.drive) s).next end
-  pub leaves : LeavesBy s (Stepped (Some (block_count old.drive)) end) t
+  pub leaves : LeavesByEvent s (Stepped (Some (block_count old.drive)) end) t
 
 -- A step that met no formatted disc: it asks nothing, and drive and scrubber are as before.
 pub record StepsWithout (old new : CacheShown) (s : Scrubber) (end : StepEnd) (t : Scrubber) : Type 0 where
   pub nothing : new ≡ old
-  pub leaves : LeavesBy s (Stepped None end) t
+  pub leaves : LeavesByEvent s (Stepped None end) t
 
 -- What a step does, by its end. NotFormatted and Off come exactly where the power is on and the disc is not formatted, and where
 -- the power is off.

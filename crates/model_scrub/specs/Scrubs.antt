@@ -19,8 +19,8 @@ abbrev pub without_block : ℕ → List ℕ → List ℕ
 without_block i found = filter (λ j. not (j == i)) found
 
 -- the list with a block in its place
-abbrev pub with_block : ℕ → List ℕ → List ℕ
-with_block i found = filter (λ j. nat_lt j i) found ++ i ∷ filter (λ j. nat_lt i j) found
+abbrev pub with_found : ℕ → List ℕ → List ℕ
+with_found i found = filter (λ j. nat_lt j i) found ++ i ∷ filter (λ j. nat_lt i j) found
 
 -- What a step does first on a formatted disc of n blocks: found blocks that the disc no longer has are dropped, and past
 -- the last block it starts again at the first.
@@ -36,7 +36,7 @@ read_well s = record { next = s.next + 1; found = without_block s.next s.found }
 
 -- or it could not be read: it is put in its place
 abbrev pub met_unread : Scrubber → Scrubber
-met_unread s = record { next = s.next + 1; found = with_block s.next s.found }
+met_unread s = record { next = s.next + 1; found = with_found s.next s.found }
 
 -- What a step on a formatted disc of n blocks leaves, by its end.
 abbrev pub LeavesOn : (count : ℕ) → Scrubber → StepEnd → Scrubber → Type 0
@@ -64,14 +64,14 @@ pub data ScrubEvent : Type 0 where
   Began : ScrubEvent
 
 -- what one of these makes of a scrubber
-abbrev pub LeavesBy : Scrubber → ScrubEvent → Scrubber → Type 0
-LeavesBy s (Stepped met end) t = Leaves met s end t
-LeavesBy s Began t = t ≡ record s { next = 0 }
+abbrev pub LeavesByEvent : Scrubber → ScrubEvent → Scrubber → Type 0
+LeavesByEvent s (Stepped met end) t = Leaves met s end t
+LeavesByEvent s Began t = t ≡ record s { next = 0 }
 
 -- All that it did since it was new, the newest first, leaves this.
 abbrev pub Scrubs : List ScrubEvent → Scrubber → Type 0
 Scrubs [] s = s ≡ fresh
-Scrubs (event ∷ events) s = (before : Scrubber) × Scrubs events before × LeavesBy before event s
+Scrubs (event ∷ events) s = (before : Scrubber) × Scrubs events before × LeavesByEvent before event s
 
 -- ---- what is remembered
 
@@ -86,14 +86,14 @@ SaysRead (ends.Readable i) j = j ≡ i
 SaysRead _ j = ⊥
 
 -- the disc that was met has this block, if it was formatted
-abbrev pub HasBlock : Option ℕ → ℕ → Type 0
-HasBlock None j = Unit {0}
-HasBlock (Some count) j = j < count
+abbrev pub IsBlockOf : Option ℕ → ℕ → Type 0
+IsBlockOf None j = Unit {0}
+IsBlockOf (Some count) j = j < count
 
 -- Some step said of the block that it could not be read, and since that step none said that it could, and none met a formatted
 -- disc that does not have it.
 abbrev pub IsRemembered : List ScrubEvent → ℕ → Type 0
 IsRemembered [] j = ⊥
 IsRemembered (Stepped met end ∷ events) j =
-    SaysUnread end j ⊎ (IsRemembered events j × HasBlock met j × ¬ SaysRead end j)
+    SaysUnread end j ⊎ (IsRemembered events j × IsBlockOf met j × ¬ SaysRead end j)
 IsRemembered (Began ∷ events) j = IsRemembered events j

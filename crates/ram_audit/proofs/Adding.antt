@@ -17,7 +17,7 @@ use Rattle.model_audit.specs.declared.lines.CopyState.{CopyState}
 use Rattle.model_audit.specs.declared.lines.CopyState.TheVariants as states
 use Rattle.model_audit.specs.declared.lines.CertificateLine.{CertificateLine}
 use Rattle.model_audit.specs.declared.lines.CertificateLine.TheVariants as lines
-use Rattle.model_audit.specs.Certificate.{ListPart, Structure, First, Second, IsPartOf, HoldsPart, CellSays, AreCopyLines, area_cells, list_cells, is_good, lost_line}
+use Rattle.model_audit.specs.Certificate.{ListPart, Structure, First, Second, IsPartOf, HoldsPart, CellSays, AreCopyLines, area_cells, list_cells, is_whole, lost_home_line}
 use Rattle.ram_outside.specs.declared.image.Image.{Ghosts}
 use Rattle.ram_image.specs.declared.medium.ImageMedium.{ImageMedium}
 use Rattle.ram_image.specs.Medium.{bytes_in}
@@ -144,26 +144,26 @@ one_number : (i : ℕ) → range_with_len 0 (i + 1) ≡ range_with_len 0 i ++ i 
 one_number i = range_with_len-append 0 i 1 ∙ ap (λ (n : ℕ). range_with_len 0 i ++ n ∷ []) (omega arith)
 
 -- the line of a block that is lost
-pub home_lost : (shape : Shape) (bytes : Option (List ℕ)) (home i : ℕ) → IfSome bytes (λ held. is_good (cell_at (cells_in_image shape held) home) ≡ false)
-    → IfSome bytes (λ held. lines.Lost (16 * i) ∷ [] ≡ (if is_good (cell_at (cells_in_image shape held) home) then [] else (lines.Lost (16 * i) ∷ [])))
+pub home_lost : (shape : Shape) (bytes : Option (List ℕ)) (home i : ℕ) → IfSome bytes (λ held. is_whole (cell_at (cells_in_image shape held) home) ≡ false)
+    → IfSome bytes (λ held. lines.Lost (16 * i) ∷ [] ≡ (if is_whole (cell_at (cells_in_image shape held) home) then [] else (lines.Lost (16 * i) ∷ [])))
 home_lost shape bytes home i lost = if_some bytes (λ held none. sym (ap (λ (b : Bool). if b then [] else (lines.Lost (16 * i) ∷ [])) none)) lost
 
 module _ (shape : Shape) (bytes : Option (List ℕ)) (lists : Lists) where
   pub lost_none : (a : Lines) → AddsLost a a shape bytes lists 0
   lost_none a = record { lost = []; adds = adds_none a; are = if_all bytes (λ held. refl) }
 
-  one_more : (cells : List Cell) (i home : ℕ) (one two : List CertificateLine) → home ≡ home_of shape lists i → one ≡ flat_map (lost_line shape cells lists) (range_with_len 0 i)
-      → two ≡ (if is_good (cell_at cells home) then [] else (lines.Lost (16 * i) ∷ [])) → one ++ two ≡ flat_map (lost_line shape cells lists) (range_with_len 0 (i + 1))
+  one_more : (cells : List Cell) (i home : ℕ) (one two : List CertificateLine) → home ≡ home_of shape lists i → one ≡ flat_map (lost_home_line shape cells lists) (range_with_len 0 i)
+      → two ≡ (if is_whole (cell_at cells home) then [] else (lines.Lost (16 * i) ∷ [])) → one ++ two ≡ flat_map (lost_home_line shape cells lists) (range_with_len 0 (i + 1))
   one_more cells i home one two home_is first second =
       ap₂ (λ (x y : List CertificateLine). x ++ y) first
-      (second ∙ ap (λ (h : ℕ). if is_good (cell_at cells h) then [] else (lines.Lost (16 * i) ∷ [])) home_is ∙ sym (append-nil (lost_line shape cells lists i)))
-      ∙ sym (flat_map-append (lost_line shape cells lists) (range_with_len 0 i) (i ∷ []))
-      ∙ ap (flat_map (lost_line shape cells lists)) (sym (one_number i))
+      (second ∙ ap (λ (h : ℕ). if is_whole (cell_at cells h) then [] else (lines.Lost (16 * i) ∷ [])) home_is ∙ sym (append-nil (lost_home_line shape cells lists i)))
+      ∙ sym (flat_map-append (lost_home_line shape cells lists) (range_with_len 0 i) (i ∷ []))
+      ∙ ap (flat_map (lost_home_line shape cells lists)) (sym (one_number i))
 
   pub lost_after : (a b c : Lines) (its : Shape) (i home : ℕ) → total its ≡ total shape → home ≡ home_of shape lists i → AddsLost a b shape bytes lists i → AddsHome b c its bytes home i → AddsLost a c shape bytes lists (i + 1)
   lost_after a b c its i home size home_is one two = record {
     lost = one.lost ++ two.lost;
     adds = adds_then a b c one.lost two.lost one.adds two.adds;
     are = both_some bytes (λ held first second. one_more (cells_in_image shape held) i home one.lost two.lost home_is first
-        (subst (λ (n : ℕ). two.lost ≡ (if is_good (cell_at (cells_of n held) home) then [] else (lines.Lost (16 * i) ∷ []))) size second)) one.are two.are;
+        (subst (λ (n : ℕ). two.lost ≡ (if is_whole (cell_at (cells_of n held) home) then [] else (lines.Lost (16 * i) ∷ []))) size second)) one.are two.are;
   }

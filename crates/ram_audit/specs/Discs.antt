@@ -41,7 +41,7 @@ AuditRule before after faults faults' lines audits.NotADisc = IsUnchanged before
 AuditRule before after faults faults' lines audits.Failed = ImageFails before after faults faults'
 
 -- the bytes that a source had left are the text of the certificate of an image with these bytes, where both are known
-pub record IsTextOf (bytes left : Option (List ℕ)) : Type 0 where
+pub record IsCertificateText (bytes left : Option (List ℕ)) : Type 0 where
   pub told : List CertificateLine
   pub of : IfSome bytes (λ held. AreCertificateOf held told)
   pub same : IfSome left (λ text. text ≡ text_of told)
@@ -60,7 +60,7 @@ pub record IsUnread (left left' : Option (List ℕ)) (faults faults' : ℕ) : Ty
 -- What a check does, by its answer: the same of the image, and what the source has left and its count, before and after.
 abbrev pub CheckRule : (before after : Option (List ℕ)) → (faults faults' : ℕ) → (left left' : Option (List ℕ)) → (source source' : ℕ) → Checked → Type 0
 CheckRule before after faults faults' left left' source source' checks.Yes =
-    IsUnchanged before after faults faults' × IsTextOf before left × (source' ≡ source)
+    IsUnchanged before after faults faults' × IsCertificateText before left × (source' ≡ source)
 CheckRule before after faults faults' left left' source source' (checks.No line) =
     IsUnchanged before after faults faults' × DiffersFirst before left line × (source' ≡ source)
 CheckRule before after faults faults' left left' source source' checks.NotADisc =

@@ -18,7 +18,7 @@ use Rattle.model_audit.specs.declared.lines.CertificateLine.TheVariants as told
 use Rattle.model_audit.specs.Text.{text_of}
 use Rattle.ram_zones.specs.declared.list_kind.ListKind.{ListKind}
 use Rattle.ram_zones.specs.declared.list_kind.ListKind.TheVariants as kinds
-use Rattle.model_audit.specs.Certificate.{ListPart, Structure, First, Second, AreCopyLines, area_cells, is_good, lost_line, closed, head_lines, list_lines, list_cells, lost_lines, TellsLists, IsCertificate}
+use Rattle.model_audit.specs.Certificate.{ListPart, Structure, First, Second, AreCopyLines, area_cells, is_whole, lost_home_line, closed, head_lines, list_lines, list_cells, lost_lines, TellsLists, IsCertificate}
 use Rattle.ram_lists.specs.Chosen.{AreChosenIn}
 use Rattle.ram_lists.specs.declared.choosing.FoundLists.{FoundLists}
 use Rattle.ram_lists.specs.declared.choosing.FoundLists.TheVariants as founds
@@ -73,7 +73,7 @@ IsDeadOrNot false shape bytes block = IfSome bytes (λ held. ¬ (cell_at (cells_
 
 -- it has whole bytes, or not
 abbrev pub IsGoodOrNot : Bool → Shape → Option (List ℕ) → (block : ℕ) → Type 0
-IsGoodOrNot good shape bytes block = IfSome bytes (λ held. is_good (cell_at (cells_in_image shape held) block) ≡ good)
+IsGoodOrNot good shape bytes block = IfSome bytes (λ held. is_whole (cell_at (cells_in_image shape held) block) ≡ good)
 
 -- ---- the lines of copies
 
@@ -85,10 +85,10 @@ StateSays cell text states.Unread = (cell ≡ Blank) ⊎ (cell ≡ Torn)
 StateSays cell text states.Dead = cell ≡ Dead
 
 -- which part of the lists a block of this kind has
-abbrev pub part_of : ListKind → ListPart
-part_of kinds.Dds = Structure
-part_of kinds.Sdl = First
-part_of kinds.SdlTwo = Second
+abbrev pub list_part_of : ListKind → ListPart
+list_part_of kinds.Dds = Structure
+list_part_of kinds.Sdl = First
+list_part_of kinds.SdlTwo = Second
 
 -- The line of a cell was added, whose part of a list has this text.
 pub record AddsCopy (old new : Lines) (shape : Shape) (bytes : Option (List ℕ)) (block : ℕ) (text : List ℕ) : Type 0 where
@@ -113,13 +113,13 @@ cells_upto shape version (suc areas) = cells_upto shape version areas ++ area_ce
 pub record AddsHome (old new : Lines) (shape : Shape) (bytes : Option (List ℕ)) (home i : ℕ) : Type 0 where
   pub lost : List CertificateLine
   pub adds : Adds old new lost
-  pub are : IfSome bytes (λ held. lost ≡ (if is_good (cell_at (cells_in_image shape held) home) then [] else (told.Lost (16 * i) ∷ [])))
+  pub are : IfSome bytes (λ held. lost ≡ (if is_whole (cell_at (cells_in_image shape held) home) then [] else (told.Lost (16 * i) ∷ [])))
 
 -- The lines of those of the first n logical blocks that are lost were added.
 pub record AddsLost (old new : Lines) (shape : Shape) (bytes : Option (List ℕ)) (lists : places.Lists) (blocks : ℕ) : Type 0 where
   pub lost : List CertificateLine
   pub adds : Adds old new lost
-  pub are : IfSome bytes (λ held. lost ≡ flat_map (lost_line shape (cells_in_image shape held) lists) (range_with_len 0 blocks))
+  pub are : IfSome bytes (λ held. lost ≡ flat_map (lost_home_line shape (cells_in_image shape held) lists) (range_with_len 0 blocks))
 
 -- ---- the whole
 

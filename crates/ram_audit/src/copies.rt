@@ -13,7 +13,7 @@ ghost use Rattle.ram_image.specs.Medium.{shape_of_medium, world_of, bytes_in};
 ghost use Rattle.ram_lists.specs.Lists.{lists_of};
 ghost use Rattle.ram_audit.specs.declared.telling.TheConstants.{TEXT_ROOM};
 ghost use Rattle.ram_audit.specs.Leaving.{IsUnarmed, LooksOn, FailsLooking};
-ghost use Rattle.ram_audit.specs.Telling.{AddsCopy, AddsCopies, part_of, bytes_of};
+ghost use Rattle.ram_audit.specs.Telling.{AddsCopy, AddsCopies, list_part_of, bytes_of};
 
 use crate::lines::Lines;
 use crate::looking::{ImageFailed, look_at_copy};
@@ -31,7 +31,7 @@ fn encode_part(lists: &Lists, part: ListKind, into: &mut Block)
     requires lawful_dds { IsLawfulDds (dds_of lists.now.dds) }
     requires lawful_sdl { IsLawfulSdl (sdl_of lists.now.sdl) }
     requires two { part ≡ SdlTwo → IsTwo (sdl_of lists.now.sdl) }
-    ensures { IsPartOf (lists_of lists.now) (part_of part) into.new }
+    ensures { IsPartOf (lists_of lists.now) (list_part_of part) into.new }
 {
     match part {
         ListKind::Dds => lists.dds.encode(into),
@@ -85,7 +85,7 @@ fn tell_part<I: Image>(
     ensures rule { MatchResult result
         (λ done. LooksOn medium.old medium.new
         × AddsCopies lines.old lines.new geometry.now (bytes_in medium.old) (lists_of lists.now)
-        ((list_block geometry.now area part, part_of part) ∷ []))
+        ((list_block geometry.now area part, list_part_of part) ∷ []))
         (λ failed. FailsLooking medium.old medium.new) }
     ensures len { bytes_of lines.new ≤ bytes_of lines.old + 23 }
 {

@@ -90,7 +90,7 @@ pub fn audit_disc<I: Image>(rooms: &mut AuditRooms, medium: MediumRooms, image: 
 ///
 /// The image is handed back with each byte as it was.
 ///
-/// - `Yes`: the source's bytes up to its end are the text of the certificate. Then: nothing is counted. (`IsTextOf`)
+/// - `Yes`: the source's bytes up to its end are the text of the certificate. Then: nothing is counted. (`IsCertificateText`)
 /// - `No`: they are not; told is the line, counted from 1, of the first byte behind their common front. Then: nothing is counted.
 ///   (`DiffersFirst`)
 /// - `NotADisc`: the image is no disc's. Then: the source was not touched. (`IsNoDisc`)

@@ -1,7 +1,7 @@
 //! The text of a certificate, line after line, in a room for that of any disc. No call but `new` takes memory.
 
 ghost use Rattle.std.specs.Prelude.{◌≡◌, ◌+◌, ◌<◌, ◌≤◌, [], ◌∷◌, ◌++◌, length, decimal, vec_capacity};
-ghost use Rattle.model_audit.specs.Text.{layout_words, version_word, kind_word, state_word, words_of, spaced, parted, line_text};
+ghost use Rattle.model_audit.specs.Text.{layout_words, version_word, kind_word, state_word, certificate_words, spaced, parted, certificate_line};
 ghost use Rattle.model_audit.specs.declared.lines.CertificateLine.TheVariants as lines;
 ghost use Rattle.ram_audit.specs.Bytes.{most_bytes, difference_text};
 
@@ -112,7 +112,7 @@ fn put_layout(text: &mut Vec<u8>, layout: LayoutKind)
 /// Puts the words of the line of a geometry behind the text.
 fn put_geometry(text: &mut Vec<u8>, zones: u32, scale: u32, psa: u32, layout: LayoutKind)
     requires room { length text.old.items + 48 ≤ vec_capacity text.old }
-    ensures text { text.new.items ≡ text.old.items ++ parted (words_of (lines.Geometry zones scale psa layout)) }
+    ensures text { text.new.items ≡ text.old.items ++ parted (certificate_words (lines.Geometry zones scale psa layout)) }
     ensures len { length text.new.items ≤ length text.old.items + 48 }
     ensures room { vec_capacity text.old ≤ vec_capacity text.new }
 {
@@ -126,7 +126,7 @@ fn put_geometry(text: &mut Vec<u8>, zones: u32, scale: u32, psa: u32, layout: La
 /// Puts the words of the line of a structure behind the text.
 fn put_structure(text: &mut Vec<u8>, version: Version, counter: u32, area: u32)
     requires room { length text.old.items + 29 ≤ vec_capacity text.old }
-    ensures text { text.new.items ≡ text.old.items ++ parted (words_of (lines.Dds version counter area)) }
+    ensures text { text.new.items ≡ text.old.items ++ parted (certificate_words (lines.Dds version counter area)) }
     ensures len { length text.new.items ≤ length text.old.items + 29 }
     ensures room { vec_capacity text.old ≤ vec_capacity text.new }
 {
@@ -139,7 +139,7 @@ fn put_structure(text: &mut Vec<u8>, version: Version, counter: u32, area: u32)
 /// Puts the words of the line of a secondary list behind the text.
 fn put_secondary(text: &mut Vec<u8>, counter: u32, area: u32, ssa: u32)
     requires room { length text.old.items + 36 ≤ vec_capacity text.old }
-    ensures text { text.new.items ≡ text.old.items ++ parted (words_of (lines.Sdl counter area ssa)) }
+    ensures text { text.new.items ≡ text.old.items ++ parted (certificate_words (lines.Sdl counter area ssa)) }
     ensures len { length text.new.items ≤ length text.old.items + 36 }
     ensures room { vec_capacity text.old ≤ vec_capacity text.new }
 {
@@ -189,7 +189,7 @@ fn put_both(text: &mut Vec<u8>, word: &[u8], one: u32, last: &[u8])
 /// Puts the words of the last line behind the text.
 fn put_end(text: &mut Vec<u8>, count: u64)
     requires room { length text.old.items + 24 ≤ vec_capacity text.old }
-    ensures text { text.new.items ≡ text.old.items ++ parted (words_of (lines.End count)) }
+    ensures text { text.new.items ≡ text.old.items ++ parted (certificate_words (lines.End count)) }
     ensures len { length text.new.items ≤ length text.old.items + 24 }
     ensures room { vec_capacity text.old ≤ vec_capacity text.new }
 {
@@ -200,7 +200,7 @@ fn put_end(text: &mut Vec<u8>, count: u64)
 /// Puts the words of a line behind the text.
 fn put_words(text: &mut Vec<u8>, line: CertificateLine)
     requires room { length text.old.items + most_bytes line ≤ vec_capacity text.old }
-    ensures text { text.new.items ≡ text.old.items ++ parted (words_of line) }
+    ensures text { text.new.items ≡ text.old.items ++ parted (certificate_words line) }
     ensures len { length text.new.items + 1 ≤ length text.old.items + most_bytes line }
     ensures room { vec_capacity text.old ≤ vec_capacity text.new }
 {
@@ -234,7 +234,7 @@ fn put_words(text: &mut Vec<u8>, line: CertificateLine)
 /// Puts a line behind the text.
 pub fn put_line(text: &mut Vec<u8>, line: CertificateLine)
     requires room { length text.old.items + most_bytes line ≤ vec_capacity text.old }
-    ensures text { text.new.items ≡ text.old.items ++ line_text line }
+    ensures text { text.new.items ≡ text.old.items ++ certificate_line line }
     ensures some { length text.old.items < length text.new.items }
     ensures len { length text.new.items ≤ length text.old.items + most_bytes line }
     ensures room { vec_capacity text.old ≤ vec_capacity text.new }

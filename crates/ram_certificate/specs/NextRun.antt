@@ -8,11 +8,11 @@ use Rattle.ram_machine.specs.Replies.{Outcome, event}
 use Rattle.ram_machine.specs.States.{State, Unopened, Disc}
 
 -- These lists are in use, and the line was answered `ready` with the capacity that they give.
-abbrev pub IsReadyWith : Lists → State → Outcome → Type 0
-IsReadyWith lists (Unopened image) outcome = ⊥
-IsReadyWith lists (Disc s) outcome = (s.disc.shown.drive.lists ≡ Some lists)
+abbrev pub IsMountedWith : Lists → State → Outcome → Type 0
+IsMountedWith lists (Unopened image) outcome = ⊥
+IsMountedWith lists (Disc s) outcome = (s.disc.shown.drive.lists ≡ Some lists)
     × (outcome ≡ event (events.Ready (capacity_of s.disc.shown.drive.shape lists)))
 
 -- That, or the image failed.
 abbrev pub MountsOrFails : Lists → State → Outcome → Type 0
-MountsOrFails lists t outcome = IsReadyWith lists t outcome ⊎ (outcome ≡ Err stopped.ImageFault)
+MountsOrFails lists t outcome = IsMountedWith lists t outcome ⊎ (outcome ≡ Err stopped.ImageFault)

@@ -50,6 +50,7 @@ pub fn no_cut_loses_the_disc()
     ensures opened_again { (s t u v w : State) (lists : Lists) (earlier later : List AnsweredStep)
         (event : AnsweredStep)
         (image : List ℕ) → HasInUse s lists → Run s earlier t → KeepDisc earlier → IsLeft t image
-        → IsFirst image u → kind_of u ≡ kind_of t → Run u later v → KeepDisc later → IsStep v event w → event.line ≡ lines.Power
+        → IsFirst image u → kind_of u ≡ kind_of t → Run u later v → KeepDisc later
+        → IsStep v event w → event.line ≡ lines.Power
         → HasTwoCopies w lists.sdl.version → IsReadyOrCut event.reply }
 {}

@@ -10,9 +10,9 @@ use Rattle.model_drive.specs.Parts.{IsInRange}
 use Rattle.model_drive.specs.Reads.{VerifyStep}
 use Rattle.model_drive.specs.Shown.{IsOn, block_count}
 use Rattle.model_drive.specs.Tells.{HasDisc}
-use Rattle.model_mirror.specs.Shown.{MirrorShown, turned_off}
+use Rattle.model_mirror.specs.Shown.{MirrorShown, mirror_turned_off}
 use Rattle.model_mirror.specs.Standing.{MirrorStands}
-use Rattle.model_mirror.specs.Reads.{LeadReads, is_stop}
+use Rattle.model_mirror.specs.Reads.{LeadReads, read_is_stopped}
 use Rattle.model_mirror.specs.declared.Resync.TheVariants as resyncs
 use Rattle.model_mirror.specs.Steps.{ResyncStep}
 use Rattle.model_mirror.specs.Whole.{CopyEnds, CopyGoesOn, CopiesBlock, CopiesBlocks, ResyncStopped, is_to_copy}
@@ -72,13 +72,13 @@ module _ (old mid new : MirrorShown) (i : ℕ) (disc : HasDisc old.lead) where
   copied_keeps reads.Fault r none = absurd none
 
 -- a block was passed: it was copied, or could not be, or was not to be
-passed_keeps : (old new : MirrorShown) (i : ℕ) (out : ReadOut) → HasDisc old.lead → is_stop out ≡ false → PassesBlock old new i out
+passed_keeps : (old new : MirrorShown) (i : ℕ) (out : ReadOut) → HasDisc old.lead → read_is_stopped out ≡ false → PassesBlock old new i out
     → Keeps old new × MatchBool (is_to_copy old i) (CopiesBlock old new i) (new ≡ old)
 passed_keeps old new i out disc goes_on passes = go (is_to_copy old i) passes
   where
     go : (due : Bool) → MatchBool due (CopiesOrStops old new i out) ((new ≡ old) × (out ≡ reads.Good)) → Keeps old new × MatchBool due (CopiesBlock old new i) (new ≡ old)
     go true copy =
-        let on = subst (λ (b : Bool). MatchBool b (new ≡ turned_off copy.mid) (CopyGoesOn copy.mid new i out)) goes_on copy.ends in
+        let on = subst (λ (b : Bool). MatchBool b (new ≡ mirror_turned_off copy.mid) (CopyGoesOn copy.mid new i out)) goes_on copy.ends in
         (copied_keeps old copy.mid new i disc out copy.reads on, record { mid = copy.mid; told = out; reads = copy.reads; goes_on = on })
     go false (same, good) = (
       record { on = ap (λ (s : MirrorShown). s.on) same; disc = subst (λ (s : MirrorShown). HasDisc s.lead) (sym same) disc; same_count = ap (λ (s : MirrorShown). block_count s.lead) same },
@@ -86,7 +86,7 @@ passed_keeps old new i out disc goes_on passes = go (is_to_copy old i) passes
     )
 
 -- a read that was neither cut nor failed was not stopped
-pub goes_on : (out : ReadOut) → out ≢ reads.Cut → out ≢ reads.Fault → is_stop out ≡ false
+pub goes_on : (out : ReadOut) → out ≢ reads.Cut → out ≢ reads.Fault → read_is_stopped out ≡ false
 goes_on reads.Good cut fault = refl
 goes_on reads.NotFormatted cut fault = refl
 goes_on (reads.Range known) cut fault = refl
@@ -96,7 +96,7 @@ goes_on reads.Off cut fault = refl
 goes_on reads.Fault cut fault = absurd (fault refl)
 
 -- a step of a call that was not stopped leaves the disc
-verified : (after : Standing → Type 0) (disc : List ℕ) (out : ReadOut) → is_stop out ≡ false → VerifyStep after (On disc) out → after (On disc)
+verified : (after : Standing → Type 0) (disc : List ℕ) (out : ReadOut) → read_is_stopped out ≡ false → VerifyStep after (On disc) out → after (On disc)
 verified after disc reads.Good stop step = step
 verified after disc reads.NotFormatted stop step = step
 verified after disc (reads.Range known) stop step = step
@@ -111,7 +111,7 @@ next_inside start now k lead other lead₁ other₁ far early =
     let same = far.same_count in record { on = far.disc.0; formatted = far.disc.1; inside = omega (arith, same, early) }
 
 module _ (start now new : MirrorShown) (k : ℕ) (lead other lead₁ other₁ lead₂ other₂ : Standing → Type 0) (far : HasPassed start now k lead other lead₁ other₁) (early : k < block_count start.lead) where
-  pub passed_more : (out : ReadOut) → is_stop out ≡ false → PassesBlock now new k out → ((s : Standing) → MirrorStands now lead₁ other₁ s → VerifyStep (MirrorStands new lead₂ other₂) s out)
+  pub passed_more : (out : ReadOut) → read_is_stopped out ≡ false → PassesBlock now new k out → ((s : Standing) → MirrorStands now lead₁ other₁ s → VerifyStep (MirrorStands new lead₂ other₂) s out)
       → HasPassed start new (k + 1) lead other lead₂ other₂
   passed_more out stop passes step =
       let keeps = passed_keeps now new k out far.disc stop passes in
@@ -125,7 +125,7 @@ module _ (start now new : MirrorShown) (k : ℕ) (lead other lead₁ other₁ le
       }
 
   -- the lead was stopped at it
-  pub passing_stopped : (out : ReadOut) → is_stop out ≡ true → PassesBlock now new k out → ResyncStopped start new out
+  pub passing_stopped : (out : ReadOut) → read_is_stopped out ≡ true → PassesBlock now new k out → ResyncStopped start new out
   passing_stopped out stop passes = go (is_to_copy now k) refl passes
     where
       go : (due : Bool) → is_to_copy now k ≡ due → MatchBool due (CopiesOrStops now new k out) ((new ≡ now) × (out ≡ reads.Good)) → ResyncStopped start new out
@@ -137,9 +137,9 @@ module _ (start now new : MirrorShown) (k : ℕ) (lead other lead₁ other₁ le
         due = due;
         late = copy.mid;
         reads = copy.reads;
-        new_is = subst (λ (b : Bool). MatchBool b (new ≡ turned_off copy.mid) (CopyGoesOn copy.mid new k out)) stop copy.ends;
+        new_is = subst (λ (b : Bool). MatchBool b (new ≡ mirror_turned_off copy.mid) (CopyGoesOn copy.mid new k out)) stop copy.ends;
       }
-      go false due (same, good) = absurd (let e : true ≡ false = sym stop ∙ ap is_stop good in cc)
+      go false due (same, good) = absurd (let e : true ≡ false = sym stop ∙ ap read_is_stopped good in cc)
 
   pub passing_step : (on_lead : IsOn start.lead) → ((discs : List (List ℕ)) → lead (Off discs) → IsOn start.lead → ⊥) → (out : ReadOut)
       → ((s : Standing) → MirrorStands now lead₁ other₁ s → VerifyStep (MirrorStands new lead₂ other₂) s out)

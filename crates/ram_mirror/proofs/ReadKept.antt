@@ -6,7 +6,7 @@ use Rattle.model_sectors.specs.declared.ReadOut.TheVariants as reads
 use Rattle.model_drive.specs.Reads.{ReadStep}
 use Rattle.model_mirror.specs.Shown.{MirrorShown, may_lead, handed_over, led_by}
 use Rattle.model_mirror.specs.Standing.{StandsSomehow, IsFollowed, MirrorStands}
-use Rattle.model_mirror.specs.Reads.{is_stop, after_alone}
+use Rattle.model_mirror.specs.Reads.{read_is_stopped, after_lone_read}
 use Rattle.model_mirror.proofs.Handing.{takes_the_lead, alone_read, read_elsewhere}
 use Rattle.ram_mirror.specs.Reading.{AllGives, OffGives}
 
@@ -21,9 +21,9 @@ off_refuses lead' other' discs lba n into reads.Off step some = (step, some)
 off_refuses lead' other' discs lba n into reads.Fault step some = absurd step
 
 -- a read that was cut or failed was stopped
-pub read_stops : (out : ReadOut) → (out ≡ reads.Cut) ⊎ (out ≡ reads.Fault) → is_stop out ≡ true
-read_stops out (inl e) = ap is_stop e
-read_stops out (inr e) = ap is_stop e
+pub read_stops : (out : ReadOut) → (out ≡ reads.Cut) ⊎ (out ≡ reads.Fault) → read_is_stopped out ≡ true
+read_stops out (inl e) = ap read_is_stopped e
+read_stops out (inr e) = ap read_is_stopped e
 
 -- What a read by the lead gives, from what it gives where its power is on and where it is off.
 module _ (old mid : MirrorShown) (lead lead' other other' : Standing → Type 0) (lba n : ℕ) (into : List ℕ) (on : old.on ≡ true) (same_on : mid.on ≡ old.on) (out : ReadOut)
@@ -33,10 +33,10 @@ module _ (old mid : MirrorShown) (lead lead' other other' : Standing → Type 0)
   now_on = same_on ∙ on
 
   -- the lead has kept it
-  pub kept_read : is_stop out ≡ false → (s : Standing) → MirrorStands old lead other s → ReadStep (MirrorStands mid lead' other') s lba n into out
+  pub kept_read : read_is_stopped out ≡ false → (s : Standing) → MirrorStands old lead other s → ReadStep (MirrorStands mid lead' other') s lba n into out
   kept_read go_on (On disc) (_, so, followed) = go out go_on (gives disc so followed)
     where
-      go : (out : ReadOut) → is_stop out ≡ false → AllGives lead' other' mid disc lba n into out → ReadStep (MirrorStands mid lead' other') (On disc) lba n into out
+      go : (out : ReadOut) → read_is_stopped out ≡ false → AllGives lead' other' mid disc lba n into out → ReadStep (MirrorStands mid lead' other') (On disc) lba n into out
       go reads.Good stop p = (p.1, (now_on, p.0.0, p.0.1))
       go reads.NotFormatted stop p = (p.0, (now_on, p.1.0, p.1.1))
       go (reads.Range known) stop p = (now_on, p.0, p.1)
@@ -56,10 +56,10 @@ module _ (old mid : MirrorShown) (lead lead' other other' : Standing → Type 0)
       go reads.Fault p = absurd p
 
   -- what a lead that was stopped leaves
-  stopped_gives : is_stop out ≡ true → (disc : List ℕ) → lead (On disc) → IsFollowed old other disc → lead' (Off (disc ∷ [])) × IsFollowed mid other' disc
+  stopped_gives : read_is_stopped out ≡ true → (disc : List ℕ) → lead (On disc) → IsFollowed old other disc → lead' (Off (disc ∷ [])) × IsFollowed mid other' disc
   stopped_gives stop disc so followed = go out stop (gives disc so followed)
     where
-      go : (out : ReadOut) → is_stop out ≡ true → AllGives lead' other' mid disc lba n into out → lead' (Off (disc ∷ [])) × IsFollowed mid other' disc
+      go : (out : ReadOut) → read_is_stopped out ≡ true → AllGives lead' other' mid disc lba n into out → lead' (Off (disc ∷ [])) × IsFollowed mid other' disc
       go reads.Good stop p = absurd (let w = stop in cc)
       go reads.NotFormatted stop p = absurd (let w = stop in cc)
       go (reads.Range known) stop p = absurd (let w = stop in cc)
@@ -68,10 +68,10 @@ module _ (old mid : MirrorShown) (lead lead' other other' : Standing → Type 0)
       go reads.Off stop p = absurd p
       go reads.Fault stop p = p
 
-  not_off : is_stop out ≡ true → (discs : List (List ℕ)) → lead (Off discs) → StandsSomehow other → ⊥
+  not_off : read_is_stopped out ≡ true → (discs : List (List ℕ)) → lead (Off discs) → StandsSomehow other → ⊥
   not_off stop discs so some = go out stop (off discs so some)
     where
-      go : (out : ReadOut) → is_stop out ≡ true → OffGives lead' other' discs out → ⊥
+      go : (out : ReadOut) → read_is_stopped out ≡ true → OffGives lead' other' discs out → ⊥
       go reads.Good stop p = p
       go reads.NotFormatted stop p = p
       go (reads.Range known) stop p = p
@@ -81,10 +81,10 @@ module _ (old mid : MirrorShown) (lead lead' other other' : Standing → Type 0)
       go reads.Fault stop p = p
 
   -- it was stopped, and the mirror is off
-  pub stopped_read : (new : MirrorShown) → is_stop out ≡ true → (s : Standing) → MirrorStands old lead other s → ReadStep (MirrorStands new lead' other') s lba n into out
+  pub stopped_read : (new : MirrorShown) → read_is_stopped out ≡ true → (s : Standing) → MirrorStands old lead other s → ReadStep (MirrorStands new lead' other') s lba n into out
   stopped_read new stop (On disc) (_, so, followed) = go out stop (stopped_gives stop disc so followed)
     where
-      go : (out : ReadOut) → is_stop out ≡ true → lead' (Off (disc ∷ [])) × IsFollowed mid other' disc → ReadStep (MirrorStands new lead' other') (On disc) lba n into out
+      go : (out : ReadOut) → read_is_stopped out ≡ true → lead' (Off (disc ∷ [])) × IsFollowed mid other' disc → ReadStep (MirrorStands new lead' other') (On disc) lba n into out
       go reads.Good stop p = absurd (let w = stop in cc)
       go reads.NotFormatted stop p = absurd (let w = stop in cc)
       go (reads.Range known) stop p = absurd (let w = stop in cc)
@@ -95,8 +95,8 @@ module _ (old mid : MirrorShown) (lead lead' other other' : Standing → Type 0)
   stopped_read new stop (Off discs) (so, some) = absurd (not_off stop discs so some)
 
   -- it was stopped, and all was read by the side that took the lead
-  pub given_read : (new : MirrorShown) (into' : List ℕ) (told : ReadOut) (new_lead : Standing → Type 0) → is_stop out ≡ true → may_lead mid ≡ true
-      → ((s : Standing) → other' s → ReadStep new_lead s lba n into' told) → new ≡ after_alone told (led_by (handed_over mid) new.lead)
+  pub given_read : (new : MirrorShown) (into' : List ℕ) (told : ReadOut) (new_lead : Standing → Type 0) → read_is_stopped out ≡ true → may_lead mid ≡ true
+      → ((s : Standing) → other' s → ReadStep new_lead s lba n into' told) → new ≡ after_lone_read told (led_by (handed_over mid) new.lead)
       → (s : Standing) → MirrorStands old lead other s → ReadStep (MirrorStands new new_lead lead') s lba n into' told
   given_read new into' told new_lead stop may step is (On disc) (_, so, followed) =
       let left = stopped_gives stop disc so followed in

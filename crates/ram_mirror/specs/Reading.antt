@@ -9,7 +9,7 @@ use Rattle.ram_requests.proofs.ReadBytes.{done}
 use Rattle.model_cache.specs.Chains.{ReadsDisc}
 use Rattle.model_mirror.specs.Shown.{MirrorShown, stands_in}
 use Rattle.model_mirror.specs.Standing.{IsFollowed, StandsSomehow}
-use Rattle.model_mirror.specs.Reads.{ReadsParts, AsksOther}
+use Rattle.model_mirror.specs.Reads.{MirrorReadsParts, AsksOther}
 
 -- the part of a request in one block was read from a side
 abbrev pub ReadsSide : Shown → Shown → (lba n block : ℕ) → ReadOut → Type 0
@@ -78,8 +78,8 @@ OffGives lead' other' discs reads.Off = lead' (Off discs) × StandsSomehow other
 OffGives lead' other' discs _ = ⊥
 
 -- The first k blocks of a request were read, and their bytes stand at the front.
-pub record ReadSoFar (start now : MirrorShown) (lba n k : ℕ) (into : List ℕ) (lead other lead' other' : Standing → Type 0) : Type 0 where
-  pub parts : ReadsParts start now lba n k
+pub record MirrorReadSoFar (start now : MirrorShown) (lba n k : ℕ) (into : List ℕ) (lead other lead' other' : Standing → Type 0) : Type 0 where
+  pub parts : MirrorReadsParts start now lba n k
   pub on : IsOn now.lead
   pub formatted : IsFormatted now.lead
   pub same_shape : now.lead.shape ≡ start.lead.shape

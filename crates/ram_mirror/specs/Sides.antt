@@ -7,11 +7,11 @@ use Rattle.model_drive.specs.Shown.{Shown}
 use Rattle.model_drive.specs.Reads.{ReadStep}
 use Rattle.model_drive.specs.Writes.{WriteStep}
 use Rattle.model_sectors.specs.declared.ReadOut.{ReadOut}
-use Rattle.model_mirror.specs.Shown.{MirrorShown, turned_off}
-use Rattle.model_mirror.specs.Reads.{LeadReads, ReadsOn, is_stop}
+use Rattle.model_mirror.specs.Shown.{MirrorShown, mirror_turned_off}
+use Rattle.model_mirror.specs.Reads.{LeadReads, ReadsWithSides, read_is_stopped}
 use Rattle.model_mirror.specs.Whole.{CopyGoesOn}
 use Rattle.model_mirror.specs.Standing.{MirrorStands}
-use Rattle.model_mirror.specs.Writes.{WritesOn}
+use Rattle.model_mirror.specs.Writes.{WritesWithSides}
 use Rattle.ram_sectors.specs.declared.Sectors.{Ghosts as Drives}
 use Rattle.ram_mirror.specs.declared.following.Following.{Following}
 use Rattle.ram_mirror.specs.declared.following.Led.{Led}
@@ -44,9 +44,9 @@ module _ {L O : Type 0} (l : Drives L) (o : Drives O) where
   -- a write, and its cause
   abbrev pub WriteLed : Bool → L → O → Following → L → O → Following → (lba n : ℕ) → Led WriteOut → Type 0
   WriteLed side lead other was lead' other' now lba n (leds.Kept out) =
-      WritesOn (shown_by l o side lead other was) (shown_by l o side lead' other' now) lba n out
+      WritesWithSides (shown_by l o side lead other was) (shown_by l o side lead' other' now) lba n out
   WriteLed side lead other was lead' other' now lba n (leds.Given out) =
-      WritesOn (shown_by l o side lead other was) (shown_by o l (not side) other' lead' now) lba n out
+      WritesWithSides (shown_by l o side lead other was) (shown_by o l (not side) other' lead' now) lba n out
 
   -- what it makes of the disc
   abbrev pub WriteLedStep : Bool → L → O → Following → L → O → Following → (lba n : ℕ) → List ℕ → Led WriteOut → Type 0
@@ -60,9 +60,9 @@ module _ {L O : Type 0} (l : Drives L) (o : Drives O) where
   -- a read, and its cause
   abbrev pub ReadLed : Bool → L → O → Following → L → O → Following → (lba n : ℕ) → Led ReadOut → Type 0
   ReadLed side lead other was lead' other' now lba n (leds.Kept out) =
-      ReadsOn (shown_by l o side lead other was) (shown_by l o side lead' other' now) lba n out
+      ReadsWithSides (shown_by l o side lead other was) (shown_by l o side lead' other' now) lba n out
   ReadLed side lead other was lead' other' now lba n (leds.Given out) =
-      ReadsOn (shown_by l o side lead other was) (shown_by o l (not side) other' lead' now) lba n out
+      ReadsWithSides (shown_by l o side lead other was) (shown_by o l (not side) other' lead' now) lba n out
 
   -- what it gives, and makes of the disc
   abbrev pub ReadLedStep : Bool → L → O → Following → L → O → Following → (lba n : ℕ) → List ℕ → Led ReadOut → Type 0
@@ -77,4 +77,4 @@ module _ {L O : Type 0} (l : Drives L) (o : Drives O) where
 pub record CopiesOrStops (old new : MirrorShown) (i : ℕ) (out : ReadOut) : Type 0 where
   pub mid : MirrorShown
   pub reads : LeadReads old mid (16 * i) 16 out
-  pub ends : MatchBool (is_stop out) (new ≡ turned_off mid) (CopyGoesOn mid new i out)
+  pub ends : MatchBool (read_is_stopped out) (new ≡ mirror_turned_off mid) (CopyGoesOn mid new i out)

@@ -131,7 +131,7 @@ impl<A: Disc, B: Disc> Mirror<A, B> {
     ///   (`ReadsLed`)
     /// - `NotFormatted`, `Range`: the lead refused so. Then: nothing changed. (`LeadReads`)
     /// - `Unread`: at the first block that the lead cannot give, and the other side may not stand in or cannot either.
-    ///   (`EndsReading`, `AsksOther`)
+    ///   (`EndsMirrorRead`, `AsksOther`)
     /// - `Cut`, `Fault`: the lead was stopped, and the other side may not lead, or was stopped too. Then: the mirror is off.
     ///   (`ReadStopped`, `ReadsElsewhere`)
     /// - `Off`: the mirror is off, or its lead. Then: nothing changed. (`MirrorReadCause`, `LeadReads`)

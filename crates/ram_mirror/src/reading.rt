@@ -9,7 +9,7 @@ ghost use Rattle.model_cache.specs.Chains.{ReadsDisc};
 ghost use Rattle.model_drive.specs.Parts.{IsInRange};
 ghost use Rattle.model_drive.specs.Reads.{ReadStep};
 ghost use Rattle.model_drive.specs.Shown.{Shown};
-ghost use Rattle.model_mirror.specs.Reads.{ReadsPart, ReadsLed, after_alone};
+ghost use Rattle.model_mirror.specs.Reads.{MirrorReadsPart, ReadsLed, after_lone_read};
 ghost use Rattle.model_mirror.specs.Shown.{MirrorShown, handed_over, led_by};
 ghost use Rattle.model_mirror.specs.Standing.{IsFollowed, StandsSomehow};
 ghost use Rattle.ram_mirror.specs.Tables.{entries_of};
@@ -91,7 +91,7 @@ fn read_part<L: Disc, O: Disc>(
 ) -> ReadOut
     requires covered { IsCovered part.request.lba part.request.n part.block }
     requires whole { length into.old ≡ 2048 * part.request.n }
-    ensures cause { (side : Bool) → ReadsPart (shown_by L.Sectors O.Sectors side lead.old other.old following.old)
+    ensures cause { (side : Bool) → MirrorReadsPart (shown_by L.Sectors O.Sectors side lead.old other.old following.old)
         (shown_by L.Sectors O.Sectors side lead.new other.new following.new) part.request.lba part.request.n part.block
         result }
     ensures gives { (side : Bool) (disc : List ℕ) → length (block_of disc part.block) ≡ 32768
@@ -131,7 +131,7 @@ fn read_block<L: Disc, O: Disc>(
 ) -> ReadOut
     requires covered { k < blocks_covered request.lba request.n }
     requires whole { length into.old ≡ 2048 * request.n }
-    ensures cause { (side : Bool) → ReadsPart (shown_by L.Sectors O.Sectors side lead.old other.old following.old)
+    ensures cause { (side : Bool) → MirrorReadsPart (shown_by L.Sectors O.Sectors side lead.old other.old following.old)
         (shown_by L.Sectors O.Sectors side lead.new other.new following.new) request.lba request.n
         (block_with request.lba + k) result }
     ensures gives { (side : Bool) (disc : List ℕ) → length (block_of disc (block_with request.lba + k)) ≡ 32768
@@ -261,7 +261,7 @@ fn read_alone<O: Disc>(
     ensures step { (s : Standing) → O.stands lead.old s → ReadStep (O.stands lead.new) s lba n into.new result }
     ensures now { (side : Bool) (mid : MirrorShown) → mid.table ≡ entries_of following.old.table
         → mid.lead_is_a ≡ side → shown_as (not side) (O.shows lead.new) mid.lead following.new
-        ≡ after_alone result (led_by (handed_over mid) (O.shows lead.new)) }
+        ≡ after_lone_read result (led_by (handed_over mid) (O.shows lead.new)) }
 {
     following.up = false;
     let out = lead.read(lba, n, into);

@@ -111,7 +111,8 @@ pub fn answer_lines<D: Drive, S: Source, K: Sink>(
     requires room { HasRoom state.old }
     ensures same { HasSameEnds dialogue.old dialogue.new }
     ensures leaves { (first : Beginning) → first.kind ≡ rooms.drive.kind
-        → BeginsWhereKnown first (S.left (source_of dialogue.old)) (K.written (sink_of dialogue.old)) (D.Image.bytes image)
+        → BeginsWhereKnown first (S.left (source_of dialogue.old)) (K.written (sink_of dialogue.old))
+        (D.Image.bytes image)
         → LeavesBy first state.new.tally (D.Image.bytes result.0) result.1 }
     ensures counts { StopCounts (counts_with S.Source K.Sink dialogue.old (D.Image.faults image))
         (counts_with S.Source K.Sink dialogue.new (D.Image.faults result.0)) result.1 }

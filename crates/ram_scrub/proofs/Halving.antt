@@ -8,7 +8,7 @@ use Rattle.std.proofs.lemmas.List.Sorted.{searched}
 use Rattle.std.specs.List.Sorted.{IsStrictlyIncreasing}
 use Rattle.std.proofs.lemmas.Bool.{cases_eq, cases_lt, lt-ltb, le-ltb, ne_eqb, eq-eqb}
 use Rattle.std.proofs.lemmas.List.Kept.{AllPairs-from_increasing}
-use Rattle.model_scrub.specs.Scrubs.{with_block, without_block}
+use Rattle.model_scrub.specs.Scrubs.{with_found, without_block}
 use Rattle.ram_scrub.specs.Places.{IsPlaceAt, IsGapAt}
 
 -- what passes is the first i
@@ -83,7 +83,7 @@ module _ (found : List ℕ) (block place : ℕ) (rise : IsStrictlyIncreasing fou
       (λ k low below. le-ltb block (get_or found k 0) (let h = never_falls found rise k place (omega (arith, low)) at.inside in let e = at.here in omega (arith, h, e)))
       (λ k from below. lt-ltb block (get_or found k 0) (let h = rising found place k rise (omega (arith, from)) below in let e = at.here in omega (arith, h, e))))
 
-  pub put_at_gap : IsGapAt found block place → insert found place block ≡ with_block block found
+  pub put_at_gap : IsGapAt found block place → insert found place block ≡ with_found block found
   put_at_gap at = ap₂ (λ (u v : List ℕ). u ++ block ∷ v) (kept_at_gap at) (higher_at_gap at)
 
   split_at : (xs : List ℕ) (k : ℕ) → k < length xs → xs ≡ take k xs ++ get_or xs k 0 ∷ drop (suc k) xs
@@ -95,7 +95,7 @@ module _ (found : List ℕ) (block place : ℕ) (rise : IsStrictlyIncreasing fou
       same (y ∷ ys) = refl
   split_at (x ∷ xs) (suc k) inside = ap (λ (l : List ℕ). x ∷ l) (split_at xs k (omega (arith, inside)))
 
-  pub there_at_place : IsPlaceAt found block place → found ≡ with_block block found
+  pub there_at_place : IsPlaceAt found block place → found ≡ with_found block found
   there_at_place at =
       split_at found place at.inside
       ∙ ap (λ (b : ℕ). take place found ++ b ∷ drop (suc place) found) at.here

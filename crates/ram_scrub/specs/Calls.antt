@@ -13,7 +13,7 @@ use Rattle.model_cache.specs.Values.{Contents}
 use Rattle.std.specs.Prelude.{Result, Ok, Err, IfErr}
 
 -- The drive has its power on and a formatted disc, of no more blocks than any disc has, of which the scrubber is to take this one.
-pub record IsReady (shown : CacheShown) (next : ℕ) : Type 0 where
+pub record IsReadyToStep (shown : CacheShown) (next : ℕ) : Type 0 where
   pub on : IsOn shown.drive
   pub formatted : IsFormatted shown.drive
   pub inside : next < block_count shown.drive
@@ -42,7 +42,7 @@ pub record IsAtBlock (shown : CacheShown) (s : Scrubber) (block : ℕ) : Type 0 
   pub next : s.next ≡ block
 
 -- Its step was made, and the pass has come to the next block, on the disc that it had.
-pub record GoesOn (old new : CacheShown) (s : Scrubber) (block : ℕ) (t : Scrubber) : Type 0 where
+pub record StepGoesOn (old new : CacheShown) (s : Scrubber) (block : ℕ) (t : Scrubber) : Type 0 where
   pub end : StepEnd
   pub is_block : EndsAs block end
   pub step : StepRule old new s end t

@@ -36,7 +36,7 @@ fn place_of(found: &[u32], block: u32) -> Result<usize, usize>
 impl FoundBlocks {
     ghost use Rattle.std.specs.Prelude.{nat_lt, IfOk, []};
     ghost use Rattle.std.specs.List.{filter};
-    ghost use Rattle.model_scrub.specs.Scrubs.{with_block, without_block};
+    ghost use Rattle.model_scrub.specs.Scrubs.{with_found, without_block};
     ghost use Rattle.ram_scrub.specs.Found.{blocks_of};
 
     /// No blocks, and room for all that may be found.
@@ -77,7 +77,7 @@ impl FoundBlocks {
     /// Puts a block in its place, if it is not there.
     pub fn put(&mut self, block: u32)
         requires { block < MOST_BLOCKS }
-        ensures { blocks_of self.new ≡ with_block block (blocks_of self.old) }
+        ensures { blocks_of self.new ≡ with_found block (blocks_of self.old) }
     {
         match place_of(&self.numbers, block) {
             Ok(_) => {}

@@ -47,7 +47,7 @@ impl Scrub {
     ghost use Rattle.model_scrub.specs.Asks.{StepRule, StepContents, AsksOn, PassRule, PassContents};
     ghost use Rattle.ram_scrub.specs.Scrub.{scrubber_of};
     ghost use Rattle.ram_scrub.specs.declared.found.TheConstants.{SCRUB_MEMORY};
-    ghost use Rattle.ram_scrub.specs.Calls.{IsReady, LeavesRead, IsAtBlock, GoesOn, EndsAt, PassedContents};
+    ghost use Rattle.ram_scrub.specs.Calls.{IsReadyToStep, LeavesRead, IsAtBlock, StepGoesOn, EndsAt, PassedContents};
 
     /// A scrubber that has found nothing, and begins at block 0. It takes the room for all blocks that it may find on any disc.
     ///
@@ -118,7 +118,7 @@ impl Scrub {
 
     /// Verifies the next block.
     fn verify_next<D: Caching>(&mut self, disc: &mut D) -> StepEnd
-        requires { IsReady (D.shows disc.old) (scrubber_of self.old).next }
+        requires { IsReadyToStep (D.shows disc.old) (scrubber_of self.old).next }
         ensures asks { AsksOn (D.shows disc.old) (D.shows disc.new) (scrubber_of self.old).next result }
         ensures leaves { LeavesRead (scrubber_of self.old) result (scrubber_of self.new) }
         ensures step { (s : Contents) → D.stands disc.old s → StepContents (D.stands disc.new) s result }
@@ -201,7 +201,7 @@ impl Scrub {
     /// Makes the step of a pass that takes this block. Whether it goes on, or how the pass ends.
     fn pass_on<D: Caching>(&mut self, disc: &mut D, block: u32) -> Result<(), PassEnd>
         requires { IsAtBlock (D.shows disc.old) (scrubber_of self.old) block }
-        ensures goes { OnOk result (GoesOn (D.shows disc.old) (D.shows disc.new)
+        ensures goes { OnOk result (StepGoesOn (D.shows disc.old) (D.shows disc.new)
             (scrubber_of self.old) block (scrubber_of self.new)) }
         ensures ends { EndsAt (D.shows disc.old) (D.shows disc.new)
             (scrubber_of self.old) (scrubber_of self.new) result }

@@ -130,7 +130,8 @@ impl<M: MediumControl> Ready<M> {
         requires settled { AreSettled geometry (M.world medium).cells (lists_of memory.lists) }
         requires lawful_dds { IsLawfulDds (dds_of memory.lists.dds) }
         requires lawful_sdl { IsLawfulSdl (sdl_of memory.lists.sdl) }
-        requires laid_out { IsLaidOut geometry (lists_of memory.lists) memory.workspace.layout memory.workspace.cursors }
+        requires laid_out { IsLaidOut geometry (lists_of memory.lists)
+            memory.workspace.layout memory.workspace.cursors }
         ensures shown { shown_ready result ≡ shown_under geometry
             (machine_shown M.world M.arms M.armed_cut medium) (lists_of memory.lists) memory.workspace.buffer }
         ensures medium { result.medium ≡ medium }
@@ -150,7 +151,8 @@ impl<M: MediumControl> Ready<M> {
         requires settled { AreSettled geometry (M.world medium).cells (lists_of memory.lists) }
         requires lawful_dds { IsLawfulDds (dds_of memory.lists.dds) }
         requires lawful_sdl { IsLawfulSdl (sdl_of memory.lists.sdl) }
-        requires laid_out { IsLaidOut geometry (lists_of memory.lists) memory.workspace.layout memory.workspace.cursors }
+        requires laid_out { IsLaidOut geometry (lists_of memory.lists)
+            memory.workspace.layout memory.workspace.cursors }
         ensures shown { shown_ready result ≡ shown_under geometry
             (machine_shown M.world M.arms M.armed_cut medium) (lists_of memory.lists) [] }
         ensures medium { result.medium ≡ medium }

@@ -1,5 +1,5 @@
 use Rattle.std.proofs.Common.{not, inl, inr, refl, sym, ap, ◌∙◌}
-use Rattle.model_mirror.specs.Reads.{is_stop}
+use Rattle.model_mirror.specs.Reads.{read_is_stopped}
 use Rattle.ram_mirror.specs.Tables.{entries_of}
 use Rattle.ram_mirror.specs.Sides.{shown_by}
 use Rattle.ram_mirror.proofs.Ends.{all_off}
@@ -7,34 +7,34 @@ use Rattle.ram_mirror.proofs.ReadKept.{read_stops, kept_read, stopped_read, give
 use Rattle.ram_mirror.proofs.reading.read_on.Goals as goal
 
 pub returns-in-Good-clause-cause : goal.returns-in-Good-clause-cause
-returns-in-Good-clause-cause g c = λ side. inl (ap is_stop c.in-Good.is, c.read_led-out.ensures.cause side)
+returns-in-Good-clause-cause g c = λ side. inl (ap read_is_stopped c.in-Good.is, c.read_led-out.ensures.cause side)
 
 pub returns-in-Good-clause-step : goal.returns-in-Good-clause-step
-returns-in-Good-clause-step g c = λ side. kept_read (shown_by g.L.Sectors g.O.Sectors side c.args.lead.now c.args.other.now c.args.following.now) (shown_by g.L.Sectors g.O.Sectors side c.read_led-out.new.lead c.read_led-out.new.other c.read_led-out.new.following) (g.L.Sectors.stands c.args.lead.now) (g.L.Sectors.stands c.read_led-out.new.lead) (g.O.Sectors.stands c.args.other.now) (g.O.Sectors.stands c.read_led-out.new.other) c.args.lba c.args.n c.read_led-out.new.into c.requires.on c.read_led-out.ensures.on c.read_led-out.result (c.read_led-out.ensures.gives side) c.read_led-out.ensures.off (ap is_stop c.in-Good.is)
+returns-in-Good-clause-step g c = λ side. kept_read (shown_by g.L.Sectors g.O.Sectors side c.args.lead.now c.args.other.now c.args.following.now) (shown_by g.L.Sectors g.O.Sectors side c.read_led-out.new.lead c.read_led-out.new.other c.read_led-out.new.following) (g.L.Sectors.stands c.args.lead.now) (g.L.Sectors.stands c.read_led-out.new.lead) (g.O.Sectors.stands c.args.other.now) (g.O.Sectors.stands c.read_led-out.new.other) c.args.lba c.args.n c.read_led-out.new.into c.requires.on c.read_led-out.ensures.on c.read_led-out.result (c.read_led-out.ensures.gives side) c.read_led-out.ensures.off (ap read_is_stopped c.in-Good.is)
 
 pub returns-in-NotFormatted-clause-cause : goal.returns-in-NotFormatted-clause-cause
-returns-in-NotFormatted-clause-cause g c = λ side. inl (ap is_stop c.in-NotFormatted.is, c.read_led-out.ensures.cause side)
+returns-in-NotFormatted-clause-cause g c = λ side. inl (ap read_is_stopped c.in-NotFormatted.is, c.read_led-out.ensures.cause side)
 
 pub returns-in-NotFormatted-clause-step : goal.returns-in-NotFormatted-clause-step
-returns-in-NotFormatted-clause-step g c = λ side. kept_read (shown_by g.L.Sectors g.O.Sectors side c.args.lead.now c.args.other.now c.args.following.now) (shown_by g.L.Sectors g.O.Sectors side c.read_led-out.new.lead c.read_led-out.new.other c.read_led-out.new.following) (g.L.Sectors.stands c.args.lead.now) (g.L.Sectors.stands c.read_led-out.new.lead) (g.O.Sectors.stands c.args.other.now) (g.O.Sectors.stands c.read_led-out.new.other) c.args.lba c.args.n c.read_led-out.new.into c.requires.on c.read_led-out.ensures.on c.read_led-out.result (c.read_led-out.ensures.gives side) c.read_led-out.ensures.off (ap is_stop c.in-NotFormatted.is)
+returns-in-NotFormatted-clause-step g c = λ side. kept_read (shown_by g.L.Sectors g.O.Sectors side c.args.lead.now c.args.other.now c.args.following.now) (shown_by g.L.Sectors g.O.Sectors side c.read_led-out.new.lead c.read_led-out.new.other c.read_led-out.new.following) (g.L.Sectors.stands c.args.lead.now) (g.L.Sectors.stands c.read_led-out.new.lead) (g.O.Sectors.stands c.args.other.now) (g.O.Sectors.stands c.read_led-out.new.other) c.args.lba c.args.n c.read_led-out.new.into c.requires.on c.read_led-out.ensures.on c.read_led-out.result (c.read_led-out.ensures.gives side) c.read_led-out.ensures.off (ap read_is_stopped c.in-NotFormatted.is)
 
 pub returns-in-Range-clause-cause : goal.returns-in-Range-clause-cause
-returns-in-Range-clause-cause g c = λ side. inl (ap is_stop c.in-Range.is, c.read_led-out.ensures.cause side)
+returns-in-Range-clause-cause g c = λ side. inl (ap read_is_stopped c.in-Range.is, c.read_led-out.ensures.cause side)
 
 pub returns-in-Range-clause-step : goal.returns-in-Range-clause-step
-returns-in-Range-clause-step g c = λ side. kept_read (shown_by g.L.Sectors g.O.Sectors side c.args.lead.now c.args.other.now c.args.following.now) (shown_by g.L.Sectors g.O.Sectors side c.read_led-out.new.lead c.read_led-out.new.other c.read_led-out.new.following) (g.L.Sectors.stands c.args.lead.now) (g.L.Sectors.stands c.read_led-out.new.lead) (g.O.Sectors.stands c.args.other.now) (g.O.Sectors.stands c.read_led-out.new.other) c.args.lba c.args.n c.read_led-out.new.into c.requires.on c.read_led-out.ensures.on c.read_led-out.result (c.read_led-out.ensures.gives side) c.read_led-out.ensures.off (ap is_stop c.in-Range.is)
+returns-in-Range-clause-step g c = λ side. kept_read (shown_by g.L.Sectors g.O.Sectors side c.args.lead.now c.args.other.now c.args.following.now) (shown_by g.L.Sectors g.O.Sectors side c.read_led-out.new.lead c.read_led-out.new.other c.read_led-out.new.following) (g.L.Sectors.stands c.args.lead.now) (g.L.Sectors.stands c.read_led-out.new.lead) (g.O.Sectors.stands c.args.other.now) (g.O.Sectors.stands c.read_led-out.new.other) c.args.lba c.args.n c.read_led-out.new.into c.requires.on c.read_led-out.ensures.on c.read_led-out.result (c.read_led-out.ensures.gives side) c.read_led-out.ensures.off (ap read_is_stopped c.in-Range.is)
 
 pub returns-in-Unread-clause-cause : goal.returns-in-Unread-clause-cause
-returns-in-Unread-clause-cause g c = λ side. inl (ap is_stop c.in-Unread.is, c.read_led-out.ensures.cause side)
+returns-in-Unread-clause-cause g c = λ side. inl (ap read_is_stopped c.in-Unread.is, c.read_led-out.ensures.cause side)
 
 pub returns-in-Unread-clause-step : goal.returns-in-Unread-clause-step
-returns-in-Unread-clause-step g c = λ side. kept_read (shown_by g.L.Sectors g.O.Sectors side c.args.lead.now c.args.other.now c.args.following.now) (shown_by g.L.Sectors g.O.Sectors side c.read_led-out.new.lead c.read_led-out.new.other c.read_led-out.new.following) (g.L.Sectors.stands c.args.lead.now) (g.L.Sectors.stands c.read_led-out.new.lead) (g.O.Sectors.stands c.args.other.now) (g.O.Sectors.stands c.read_led-out.new.other) c.args.lba c.args.n c.read_led-out.new.into c.requires.on c.read_led-out.ensures.on c.read_led-out.result (c.read_led-out.ensures.gives side) c.read_led-out.ensures.off (ap is_stop c.in-Unread.is)
+returns-in-Unread-clause-step g c = λ side. kept_read (shown_by g.L.Sectors g.O.Sectors side c.args.lead.now c.args.other.now c.args.following.now) (shown_by g.L.Sectors g.O.Sectors side c.read_led-out.new.lead c.read_led-out.new.other c.read_led-out.new.following) (g.L.Sectors.stands c.args.lead.now) (g.L.Sectors.stands c.read_led-out.new.lead) (g.O.Sectors.stands c.args.other.now) (g.O.Sectors.stands c.read_led-out.new.other) c.args.lba c.args.n c.read_led-out.new.into c.requires.on c.read_led-out.ensures.on c.read_led-out.result (c.read_led-out.ensures.gives side) c.read_led-out.ensures.off (ap read_is_stopped c.in-Unread.is)
 
 pub returns-in-Off-clause-cause : goal.returns-in-Off-clause-cause
-returns-in-Off-clause-cause g c = λ side. inl (ap is_stop c.in-Off.is, c.read_led-out.ensures.cause side)
+returns-in-Off-clause-cause g c = λ side. inl (ap read_is_stopped c.in-Off.is, c.read_led-out.ensures.cause side)
 
 pub returns-in-Off-clause-step : goal.returns-in-Off-clause-step
-returns-in-Off-clause-step g c = λ side. kept_read (shown_by g.L.Sectors g.O.Sectors side c.args.lead.now c.args.other.now c.args.following.now) (shown_by g.L.Sectors g.O.Sectors side c.read_led-out.new.lead c.read_led-out.new.other c.read_led-out.new.following) (g.L.Sectors.stands c.args.lead.now) (g.L.Sectors.stands c.read_led-out.new.lead) (g.O.Sectors.stands c.args.other.now) (g.O.Sectors.stands c.read_led-out.new.other) c.args.lba c.args.n c.read_led-out.new.into c.requires.on c.read_led-out.ensures.on c.read_led-out.result (c.read_led-out.ensures.gives side) c.read_led-out.ensures.off (ap is_stop c.in-Off.is)
+returns-in-Off-clause-step g c = λ side. kept_read (shown_by g.L.Sectors g.O.Sectors side c.args.lead.now c.args.other.now c.args.following.now) (shown_by g.L.Sectors g.O.Sectors side c.read_led-out.new.lead c.read_led-out.new.other c.read_led-out.new.following) (g.L.Sectors.stands c.args.lead.now) (g.L.Sectors.stands c.read_led-out.new.lead) (g.O.Sectors.stands c.args.other.now) (g.O.Sectors.stands c.read_led-out.new.other) c.args.lba c.args.n c.read_led-out.new.into c.requires.on c.read_led-out.ensures.on c.read_led-out.result (c.read_led-out.ensures.gives side) c.read_led-out.ensures.off (ap read_is_stopped c.in-Off.is)
 
 pub returns-then-not-may_lead-clause-cause : goal.returns-then-not-may_lead-clause-cause
 returns-then-not-may_lead-clause-cause g c = λ side.
