@@ -318,3 +318,22 @@ def before_cache(program: Path, other: Path, folder: Path) -> None:
     """Beside a program that has no write cache."""
     cases = [(write, blocks, 1.02) for write in (False, True) for blocks in (1, 4, 16, 64)]
     beside(program, other, folder, "no cache", cases)
+
+
+def turned_and_formatted(program: Path, other: Path, folder: Path) -> None:
+    """How long both programs take to turn the power off and on, and for a full format."""
+    image = folder / "turned.img"
+    benches = [Bench(each, image) for each in (program, other)]
+    benches[0].once(NEW_DISC)
+    for what, line, count in ("the power goes on", "power\n", 300), ("a full format", FORMAT, 10):
+        both = [best([bench.runs(POWER + part) for bench in benches]) for part in (line * count, "")]
+        this, that = ((many - none) / count for many, none in zip(*both))
+        row(f"{what}, beside the program before", this, that, 1.02)
+    image.unlink()
+
+
+def before_change(program: Path, other: Path, folder: Path) -> None:
+    """Beside the program before a change, than which this one is to be no slower."""
+    cases = [(write, blocks, 1.02) for write in (False, True) for blocks in (1, 2, 4, 8, 16, 64)]
+    beside(program, other, folder, "the program before", cases)
+    turned_and_formatted(program, other, folder)
