@@ -1,16 +1,17 @@
 """Images of discs with defect lists, as they are measured. All blocks but those of the lists are blank, or
-dead."""
+dead. The lists are laid by the model (tests/model)."""
 from __future__ import annotations
 
 import sys
 from pathlib import Path
 from typing import List, Optional, Sequence, Tuple
 
-sys.path.append(str(Path(__file__).resolve().parent.parent / "tools"))
+sys.path.append(str(Path(__file__).resolve().parent.parent / "tests"))
 
 # pylint: disable-next=wrong-import-position
-from dvdram.lists import (BLOCK, MOST_SPARES, Geometry, LayoutKind, Lists, Secondary,  # noqa: E402
-                          Structure)
+from model.lists import MADE, Lists, Secondary, Slipped, Structure  # noqa: E402
+# pylint: disable-next=wrong-import-position
+from model.medium import BLOCK, HEADER, MOST_SPARES, Geometry, LayoutKind, State  # noqa: E402
 
 GREATEST = Geometry(35, 100, MOST_SPARES)
 # Those with the most spares, of a disc that has a group of them in each zone; and the same of one group.
@@ -18,46 +19,49 @@ ZONES = Geometry(35, 5, 116, LayoutKind.EACH_ZONE)
 ONE_GROUP = Geometry(35, 5, 116)
 
 
+def empty_lists(geometry: Geometry, slipped: Sequence[int] = (), spares: int = 0) -> Lists:
+    """Lists with these slipped blocks and so many supplementary spares, and none that is replaced."""
+    entries = tuple(Slipped(0, block) for block in slipped)
+    structure = Structure(MADE, True, 2, geometry.spares, entries, geometry.layout)
+    return Lists(geometry, structure, Secondary(MADE, 1, 2, spares))
+
+
 def lists_of(geometry: Geometry, slipped: Sequence[int] = (), spares: int = 0,
              retired_ones: Sequence[int] = (), every: int = 0, count: int = 0) -> Lists:
-    """Lists of version 2 with these slipped blocks and retired spares, and so many supplementary spares; of
+    """Lists of one group with these slipped blocks and retired spares, and so many supplementary spares; of
     every so many logical blocks one is replaced, until so many are, by the spares in their order."""
-    structure = Structure(2, 2, True, geometry.spares, tuple((0, block) for block in slipped))
-    lists = Lists(geometry, structure, Secondary(2, 1, 2, spares, ()))
-    (_, free), *_ = lists.pools
-    primary = geometry.spares - len(slipped)
-    free = [*reversed(free[:primary]), *reversed(free[primary:])][:count]
+    lists = empty_lists(geometry, slipped, spares)
+    free = [*reversed(lists.primary), *reversed(lists.supplementary)][:count]
     entries: List[Tuple[int, Optional[int]]] = [(block, None) for block in retired_ones]
     entries += zip(lists.logical[::every], free) if every else []
     entries.sort(key=lambda entry: entry[0])
-    return Lists(geometry, structure, Secondary(2, 1, 2, spares, tuple(entries)))
+    return Lists(geometry, lists.structure, Secondary(MADE, 1, 2, spares, tuple(entries)))
 
 
 def press(path: Path, lists: Lists) -> None:
     """Makes the image of a disc with these lists. What is slipped, replaced or retired is dead."""
-    geometry, blocks = lists.geometry, lists.geometry.total
-    numbers = geometry.zones, geometry.scale, geometry.spares, 0
-    states = bytearray(blocks)
-    for block in [*lists.structure.slipped, *(block for block, _ in lists.secondary.entries)]:
-        states[block] = 3
-    texts = [(block, lists.structure.encode()) for block in geometry.structure_blocks]
-    texts += [pair for area in geometry.secondary_blocks for pair in zip(area, lists.secondary.encode())]
+    geometry = lists.geometry
+    states = bytearray(geometry.blocks)
+    for block in [*lists.structure.blocks, *(block for block, _ in lists.secondary.entries)]:
+        states[block] = State.DEAD
+    texts = [(block, lists.structure.text) for block in geometry.structure_blocks]
+    texts += [pair for area in geometry.secondary_blocks for pair in zip(area, lists.secondary.texts)]
     for block, _ in texts:
-        states[block] = 1
+        states[block] = State.GOOD
     with path.open("wb") as image:
-        image.truncate(16 + blocks + BLOCK * blocks)
-        image.write(b"DVDRAM01" + b"".join(number.to_bytes(2, "big") for number in numbers) + states)
+        image.truncate(geometry.image_length)
+        image.write(geometry.header + states)
         for block, text in texts:
-            image.seek(16 + blocks + BLOCK * block)
+            image.seek(HEADER + geometry.blocks + BLOCK * block)
             image.write(text)
 
 
 def put_states(path: Path, geometry: Geometry, state: int) -> None:
     """Gives all data blocks of a disc this state byte."""
     with path.open("r+b") as image:
-        states = bytearray(image.read(16 + geometry.total))
-        for block in geometry.data:
-            states[16 + block] = state
+        states = bytearray(image.read(HEADER + geometry.blocks))
+        for block in geometry.data_blocks:
+            states[HEADER + block] = state
         image.seek(0)
         image.write(states)
 
@@ -69,7 +73,8 @@ def plain(path: Path) -> None:
 
 def slipped_and_replaced(path: Path) -> None:
     """The greatest disc, with 4,092 slipped blocks and 4,092 replaced ones: one of 32 logical blocks."""
-    press(path, lists_of(GREATEST, GREATEST.data[17::35][:MOST_SPARES], MOST_SPARES, (), 32, MOST_SPARES))
+    slipped = GREATEST.data_blocks[17::35][:MOST_SPARES]
+    press(path, lists_of(GREATEST, slipped, MOST_SPARES, (), 32, MOST_SPARES))
 
 
 def replaced(path: Path) -> None:
@@ -80,7 +85,7 @@ def replaced(path: Path) -> None:
 def retired(path: Path) -> None:
     """A disc whose spares are all retired: a list of 8,184 entries."""
     geometry = Geometry(4, 100, MOST_SPARES)
-    all_spares = geometry.data[:MOST_SPARES] + geometry.data[-MOST_SPARES:]
+    all_spares = geometry.data_blocks[:MOST_SPARES] + geometry.data_blocks[-MOST_SPARES:]
     press(path, lists_of(geometry, (), MOST_SPARES, all_spares))
 
 
@@ -109,10 +114,9 @@ def lists_of_zones(slipped: int = 0, used: int = 0) -> Lists:
     every other one as far as that goes, and so many spares that are used up: they replace the first logical
     blocks of the zone, and where it has fewer the others are retired."""
     blocks = [block for zone in ZONES.data_of_zones for block in sorted([*zone[::2], *zone[1::2]][:slipped])]
-    structure = Structure(2, 2, True, ZONES.spares, tuple((0, block) for block in blocks), ZONES.layout)
-    lists = Lists(ZONES, structure, Secondary(2, 1, 2, 0, ()))
+    lists = empty_lists(ZONES, blocks)
     entries: List[Tuple[int, Optional[int]]] = []
-    for logical, free in lists.pools:
+    for logical, free in lists.groups:
         entries += zip(logical, free[:used])
         entries += [(spare, None) for spare in free[len(logical):used]]
-    return Lists(ZONES, structure, Secondary(2, 1, 2, 0, tuple(entries)))
+    return Lists(ZONES, lists.structure, Secondary(MADE, 1, 2, 0, tuple(entries)))

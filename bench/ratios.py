@@ -7,9 +7,9 @@ from statistics import median
 from typing import Iterable, List, Optional, Sequence, Tuple
 
 import discs
-from dvdram.lists import MOST_SPARES
 from measuring import (CACHE_ON, FORMAT, POWER, SYNCHRONIZE, Bench, Measured, Piece, Timed, best,
                        in_session, in_turn, loop_line, read_command, write_command)
+from model.medium import MOST_SPARES
 
 # How many blocks are measured.
 BLOCKS = 896
@@ -176,7 +176,7 @@ def expansions(bench: Bench) -> float:
     """The time of some updates of the list in use, by expansions, which need no spare."""
     session = Timed(bench.program, bench.image)
     session.asks(POWER)
-    sectors = 16 * (len(discs.GREATEST.data) - SPARES)
+    sectors = 16 * (len(discs.GREATEST.data_blocks) - SPARES)
     answers, time = session.asks("".join(
         f"cdb 041100000000 hex 00000008{sectors - 16 * (k + 1):08x}04000000\n" for k in range(FEW)))
     assert answers == ["good"] * FEW, answers

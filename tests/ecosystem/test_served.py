@@ -7,7 +7,7 @@ import signal
 import subprocess
 from pathlib import Path
 
-from dvdram.disc import HEADER
+from dvdram.certificate import HEADER
 from dvdram.drive import FORMAT
 from support import (NBD, PLUGIN, PROGRAM, SECONDS, TOOLS, FolderTest, Server, children_of, done, is_free,
                      needs, random_bytes, run_script, wait_until)

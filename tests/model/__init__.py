@@ -9,6 +9,8 @@ changes an image by hand, and `unfit` lays lists on a disc that do not fit. And 
 reports with, whatever drive they are of: `reports` reads one back, `promise` says where it breaks the promise
 of docs/PROMISE.md, and `reports_by_hand` has some that do.
 
+By `medium` and `lists` bench/discs.py, and the tests of maps in tests/ecosystem, lay lists on discs.
+
 The model is short rather than fast: an author of another drive can read it beside the documents, and
 compare with it.
 """

@@ -1,7 +1,8 @@
 """The drive as a disk: what speaks to the program, reads its images, and serves it to others.
 
-`protocol` has a session of the program, and `drive` a drive that lives on over several. `lists` and `disc`
-read an image, and `pictures` shows it. `prepare` gets a disc ready to be served, `control` has the socket of
+`program` finds the program. `protocol` has a session of it, and `drive` a drive that lives on over several.
+`certificate` reads what it tells of an image, `lists` and `disc` say what each block is by that, and
+`pictures` shows it. `prepare` gets a disc ready to be served, `control` has the socket of
 a person, and `plugin` the calls of nbdkit. `ram_ctl` and `ram_map` are the commands of these names.
 """
 from __future__ import annotations

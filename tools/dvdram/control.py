@@ -101,8 +101,7 @@ def answer_line(drive: Drive, line: str) -> list[str]:
 def list_blocks(drive: Drive) -> list[str]:
     """The dead and the torn blocks, and what was armed; what was armed for a block that is dead by now is
     left out."""
-    with Disc(drive.image, drive.layout) as disc:
-        states = disc.states
+    states = Disc(drive.program, drive.image).states
     bad = [f"{state.value} {block}"
            for block, state in enumerate(states) if state in (State.DEAD, State.TORN)]
     dead = {f"wear {block}" for block, state in enumerate(states) if state is State.DEAD}

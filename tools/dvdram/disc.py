@@ -2,16 +2,12 @@
 reads."""
 from __future__ import annotations
 
-import os
-from dataclasses import dataclass, replace
+from dataclasses import dataclass
 from enum import Enum
 from functools import cached_property
 
-from . import NoDisc
-from .lists import BLOCK, Geometry, LayoutKind, Lists, choose
-
-SIGNATURE = b"DVDRAM01"
-HEADER = 16
+from .certificate import HEADER, certificate_of
+from .lists import LayoutKind, Lists
 
 
 class State(Enum):
@@ -61,59 +57,17 @@ class Block:
 
 
 class Disc:
-    """An image that is opened for reading. It does not tell the layout of its disc: where none is named, that
-    is a group of spares in each zone if lists of this kind alone are found. Raises `NoDisc` where it is the
-    image of no disc, and `OSError`."""
+    """A disc as its image is now: its lists and what they lost by its certificate, and the state bytes of its
+    blocks. The image does not tell the layout: where none is named, that is a group of spares in each zone if
+    lists of this kind alone are found. Raises `NoDisc` where it is the image of no disc, `Ended` where the
+    program does not tell, and `OSError`."""
 
-    def __init__(self, path: str, layout: LayoutKind | None = None) -> None:
+    def __init__(self, program: list[str], path: str, layout: LayoutKind | None = None) -> None:
         with open(path, "rb") as file:
-            self.file = os.dup(file.fileno())
-        try:
-            self.geometry = self.read_geometry(layout or LayoutKind.ONE_GROUP)
-            self.states = [STATES.get(byte, State.TORN)
-                           for byte in os.pread(self.file, self.geometry.total, HEADER)]
-            if not layout:
-                self.geometry = self.as_found()
-        except NoDisc:
-            self.close()
-            raise NoDisc(f"{path} holds no disc") from None
-
-    def __enter__(self) -> Disc:
-        return self
-
-    def __exit__(self, *_: object) -> None:
-        self.close()
-
-    def close(self) -> None:
-        os.close(self.file)
-
-    def read_geometry(self, layout: LayoutKind) -> Geometry:
-        header = os.pread(self.file, HEADER, 0)
-        zones, scale, spares = (int.from_bytes(header[at:at + 2], "big") for at in (8, 10, 12))
-        geometry = Geometry(zones, scale, spares, layout)
-        if header[:8] != SIGNATURE or header[14:] != b"\0\0" or not geometry.is_lawful():
-            raise NoDisc
-        if os.fstat(self.file).st_size != HEADER + geometry.total * (1 + BLOCK):
-            raise NoDisc
-        return geometry
-
-    def as_found(self) -> Geometry:
-        """The geometry, with the layout of the lists that are found."""
-        zones = replace(self.geometry, layout=LayoutKind.EACH_ZONE)
-        is_of_zones = (zones.is_lawful() and not choose(self.geometry, self.readable)[1]
-                       and choose(zones, self.readable)[1])
-        return zones if is_of_zones else self.geometry
-
-    def readable(self, block: int) -> bytes | None:
-        """The bytes of a block, where it is good."""
-        if self.states[block] is not State.GOOD:
-            return None
-        return os.pread(self.file, BLOCK, HEADER + self.geometry.total + BLOCK * block)
-
-    @cached_property
-    def lists(self) -> Lists | None:
-        """The lists that a mount chooses; none where the disc is not formatted."""
-        return choose(self.geometry, self.readable)[1]
+            told = certificate_of(program, path, layout)
+            self.geometry, self.lists, self.lost = told.geometry, told.lists, told.lost
+            file.seek(HEADER)
+            self.states = [STATES.get(byte, State.TORN) for byte in file.read(self.geometry.total)]
 
     @cached_property
     def blocks(self) -> list[Block]:
@@ -130,7 +84,7 @@ class Disc:
         roles = [Role.LEAD_IN] * 8 + [Role.UNFORMATTED] * (geometry.lead_out - 8) + [Role.LEAD_OUT] * 8
         for block in geometry.guards:
             roles[block] = Role.GUARD
-        parts = self.lists.secondary.version if self.lists else 2
+        parts = self.lists.structure.version if self.lists else 2
         for structure, copy in zip(geometry.structure_blocks, geometry.secondary_blocks):
             roles[structure] = Role.STRUCTURE
             for block in copy[:parts]:

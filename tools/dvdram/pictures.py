@@ -41,7 +41,7 @@ def lists_in_words(disc: Disc) -> Iterator[str]:
         yield "not formatted"
         return
     structure, secondary = disc.lists.structure, disc.lists.secondary
-    slipped = len(structure.entries)
+    slipped = len(structure.slipped)
     yield f"structure: version {structure.version}, counter {structure.counter}, {slipped} blocks slipped"
     yield (f"secondary list: counter {secondary.counter}, {len(secondary.entries)} entries, "
            f"{secondary.spares} supplementary spares")
@@ -73,12 +73,11 @@ def as_json(disc: Disc) -> str:
 
 def ddrescue(disc: Disc) -> str:
     """What of the host's bytes can be read, as a map file of ddrescue."""
-    homes = disc.lists.homes if disc.lists else []
     rows, at = ["# Mapfile. Made by ram-map", "# current_pos  current_status  current_pass",
                 "0x00000000     +               1", "#      pos        size  status"], 0
-    for is_good, group in groupby(homes, lambda home: disc.states[home] is State.GOOD):
+    for is_lost, group in groupby(range(0, disc.sectors, 16), lambda sector: sector in disc.lost):
         size = 16 * SECTOR * sum(1 for _ in group)
-        rows.append(f"0x{at:08X}  0x{size:08X}  {'+' if is_good else '-'}")
+        rows.append(f"0x{at:08X}  0x{size:08X}  {'-' if is_lost else '+'}")
         at += size
     return "\n".join(rows)
 

@@ -16,7 +16,8 @@ import nbdkit
 from . import Ended, NoDisc, Refused, SocketInUse, Wrong
 from .control import Listener, answer_line, serve
 from .drive import Drive
-from .prepare import Parameters, find_program, open_image, prepare
+from .prepare import Parameters, open_image, prepare
+from .program import find_program
 from .protocol import SECTOR
 
 __all__ = [
@@ -87,7 +88,7 @@ def get_ready() -> None:
     """Tries all that can go wrong: clients are served once the server has forked, and an exception would
     leave them waiting."""
     global serving  # pylint: disable=global-statement
-    program = find_program(parameters)
+    program = find_program(parameters.program)
     image = open_image(parameters)
     prepare(parameters, program)
     control = Listener(parameters.control) if parameters.control else None

@@ -5,17 +5,13 @@ from __future__ import annotations
 import fcntl
 import os
 import re
-import shutil
-import subprocess
 from dataclasses import dataclass, fields
-from pathlib import Path
 
 from . import Ended, NoDisc, Refused, Wrong
 from .disc import Disc, State
 from .drive import FORMAT, IS_READY, Drive
 from .lists import LayoutKind
 
-TOOLS = Path(__file__).resolve().parent.parent
 CHOICES = {
     "layout": tuple(kind.value for kind in LayoutKind), "format": ("yes", "no"), "force": ("yes", "no"),
     "poweroff": ("stay", "again", "exit"),
@@ -58,21 +54,6 @@ class Parameters:
         self.control = self.control and os.path.abspath(self.control)
 
 
-def find_program(words: Parameters) -> list[str]:
-    """The program: the one named, that of this checkout, the one installed beside these tools, or one on the
-    path."""
-    places = (TOOLS.parent / "drive", TOOLS.parent.parent / "bin" / "ram_drive")
-    found = words.program or next((str(place) for place in places if place.is_file()), "ram_drive")
-    program = shutil.which(found)
-    if not program:
-        raise Wrong(f"program={found}: there is no such program")
-    version = subprocess.run([program, "--version"], stdin=subprocess.DEVNULL, stdout=subprocess.PIPE,
-                             check=False)
-    if not version.stdout.startswith(b"ram_drive "):
-        raise Wrong(f"program={found}: it is no drive")
-    return [os.path.abspath(program)]
-
-
 def open_image(words: Parameters) -> int:
     """Opens the image and locks it. It is made, empty, where a disc is to be pressed into it."""
     try:
@@ -89,12 +70,12 @@ def open_image(words: Parameters) -> int:
 
 def prepare(words: Parameters, program: list[str]) -> None:
     """Presses and formats the disc where that is asked for and due, and sees that it has sectors."""
-    if must_press(words):
+    if must_press(words, program):
         press(words, program)
     drive = Drive(program, words.image, words.kind, is_on=False)
     answer = drive.say("power")[0]
     if answer == "not formatted":
-        see_layout(words)
+        see_layout(words, program)
         if words.format == "yes":
             format_disc(words, drive)
         elif not words.control:
@@ -102,23 +83,23 @@ def prepare(words: Parameters, program: list[str]) -> None:
     end(drive)
 
 
-def see_layout(words: Parameters) -> None:
+def see_layout(words: Parameters, program: list[str]) -> None:
     """Sees that a disc that is not formatted is not one of the other layout, but by force."""
-    with Disc(words.image) as disc:
-        other = disc.geometry.layout
-        if disc.lists and other is not words.kind and words.force == "no":
-            raise Wrong(f"image={words.image} holds a disc of another layout: layout={other.value} serves it")
+    disc = Disc(program, words.image)
+    other = disc.geometry.layout
+    if disc.lists and other is not words.kind and words.force == "no":
+        raise Wrong(f"image={words.image} holds a disc of another layout: layout={other.value} serves it")
 
 
-def must_press(words: Parameters) -> bool:
+def must_press(words: Parameters, program: list[str]) -> bool:
     """Whether a disc is to be pressed: where there is none, or by force."""
     if words.press and words.force == "yes":
         return True
     try:
-        with Disc(words.image) as disc:
-            if words.kind is LayoutKind.EACH_ZONE and not disc.geometry.fits_zones():
-                raise Wrong(f"image={words.image} holds a disc without room for a group of spares in each "
-                            "zone: it is no disc to layout=groups")
+        disc = Disc(program, words.image)
+        if words.kind is LayoutKind.EACH_ZONE and not disc.geometry.fits_zones():
+            raise Wrong(f"image={words.image} holds a disc without room for a group of spares in each "
+                        "zone: it is no disc to layout=groups")
     except NoDisc:
         if not words.press:
             raise Wrong(f"image={words.image} holds no disc: press=ZONES,SCALE,SPARES makes one") from None
@@ -138,8 +119,8 @@ def press(words: Parameters, program: list[str]) -> None:
 def format_disc(words: Parameters, drive: Drive) -> None:
     """Formats the disc. One that was written before is formatted by force alone: it may have lost its
     lists."""
-    with Disc(words.image, words.kind) as disc:
-        was_written = any(state in (State.GOOD, State.TORN) for state in disc.states)
+    disc = Disc(drive.program, words.image)
+    was_written = any(state in (State.GOOD, State.TORN) for state in disc.states)
     if was_written and words.force == "no":
         raise Wrong(f"image={words.image} was written, and is not formatted any more: "
                     "force=yes formats it anew")

@@ -1,14 +1,17 @@
-"""Shows what each block of a disc is, from its image alone: by the lists that the drive would choose at the
-next `power`."""
+"""Shows what each block of a disc is: by the lists that the drive would choose at the next `power`, as the
+program tells them, and by the states of the blocks in its image."""
 from __future__ import annotations
 
 import argparse
 import sys
 
-from . import NoDisc
+from . import Ended, NoDisc
 from .disc import Disc
 from .lists import LayoutKind
 from .pictures import OUTPUTS
+from .program import built_program
+
+NO_PROGRAM = 9  # as `drive` ends where it could not be built
 
 
 def main() -> int:
@@ -19,12 +22,15 @@ def main() -> int:
                         help="the word by which the disc is served (default: that of the lists found on it)")
     words = parser.parse_args()
     try:
-        with Disc(words.image, LayoutKind(words.layout) if words.layout else None) as disc:
-            print(OUTPUTS[words.output](disc))
+        disc = Disc(built_program(), words.image, LayoutKind(words.layout) if words.layout else None)
+        print(OUTPUTS[words.output](disc))
     except NoDisc as error:
         print(f"ram-map: {error}", file=sys.stderr)
         return 1
     except OSError as error:
         print(f"ram-map: {words.image}: {error.strerror}", file=sys.stderr)
         return 1
+    except Ended as error:
+        print(f"ram-map: {error}", file=sys.stderr)
+        return NO_PROGRAM
     return 0
