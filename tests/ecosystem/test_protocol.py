@@ -70,8 +70,10 @@ class Protocol(FolderTest):
         drive = drive_over("disc.img")
         self.addCleanup(drive.end)
         drive.say("cdb 000000000000")
-        blocks = [f"{code}000000{n:02x}00" for code in ("03", "12") for n in (0, 1, 18, 36, 255)]
-        blocks += [f"{code}{n:04x}00" for code in ("23000000000000", "46000000000000", "5a003f00000000")
+        blocks = [f"{code}{n:02x}00" for code in ("03000000", "12000000", "12010000", "1a003f00")
+                  for n in (0, 1, 18, 36, 255)]
+        blocks += [f"{code}{n:04x}00" for code in ("23000000000000", "46000000000000", "4a010000100000",
+                                                   "51000000000000", "5a003f00000000")
                    for n in (0, 1, 8, 300)]
         blocks += [f"ad000000000000{form}{n:04x}0000" for form in ("08", "0a") for n in (0, 4, 2052, 4000)]
         blocks += ["25000000000000000000", "28000000000f00000300", "2800000000000000000000",

@@ -17,7 +17,16 @@ STEPS = (
     ("sg_readcap DEV", 0, "Last LBA=303 (0x12f), Number of logical blocks=304"),
     ("sg_readcap DEV", 0, "length=2048 bytes"),
     ("sg_modes DEV", 0, "Read-Write error recovery, page_control: current\n 00     01 0a 80 00"),
-    ("sg_modes DEV", 0, "Caching"), ("sg_get_config DEV", 0, "Current profile: DVD-RAM"),
+    ("sg_modes DEV", 0, "Caching"),
+    ("sg_modes --six --page=0x2a DEV", 0, "MM capabilities and mechanical status"),
+    ("sg_get_config DEV", 0, "Current profile: DVD-RAM"),
+    ("sg_get_config DEV", 0, "Loading mechanism: Tray type"),
+    ("sg_get_config DEV", 0, "Hardware defect management feature\n"
+                             "    version=1, persist=0, current=1 [0x24]\n      SSA=1\n"),
+    ("sg_get_config --rt=2 --starting=0x20 DEV", 0,
+     "Features:\n  Random writable feature\n    version=1, persist=0, current=1 [0x20]\n"
+     "      Last lba=0x12f, Logical block size=0x800, blocking=0x10, PP=1\n"),
+    ("sg_vpd DEV", 0, "Supported VPD pages [sv]"),
     ("sg_verify --lba=0 --count=16 DEV", 0, ""), ("sg_verify --lba=400 --count=1 -v DEV", 22, "out of range"),
     ("sg_wr_mode --page=8 --contents=08,0a,0,0,0,0,0,0,0,0,0,0 DEV", 0, ""),
     ("sg_wr_mode --page=8 --contents=08,0a,4,0,0,0,0,0,0,0,0,0 DEV", 0, ""),

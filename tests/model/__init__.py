@@ -1,8 +1,8 @@
 """A model of the drive, made from docs/SCRIPT.md, docs/REPORT.md and docs/FORMATS.md alone.
 
 `medium` has the bytes of an image, and what one use of a block does; `lists` the two defect lists; `drive`
-what is done to a disc, and `cache` the write cache before it; `commands` the commands of a host; `script` the
-lines of a script and the report.
+what is done to a disc, and `cache` the write cache before it; `commands` the commands of a host, and
+`replies` the bytes of their replies; `script` the lines of a script and the report.
 
 Beside the model stands what `checks/random` tries it with: `draw` and `draw_lines` draw scripts, `hostile`
 changes an image by hand, and `unfit` lays lists on a disc that do not fit. And what `checks/promise` looks at

@@ -9,15 +9,11 @@ from .cache import CachedDrive
 from .drive import Check, Sense
 from .lists import number
 from .medium import SECTOR
+from .replies import (CACHING, IN_FORCE, INQUIRY, PAGE_CODES, VITAL_PAGES, WCE, capacity, configuration,
+                      disc_information, events, mode_pages)
 
 MOST_SECTORS = 1_024
 ATTENTION = Sense(6, 0x29, 0x00)
-INQUIRY = bytes.fromhex("058000021f000000") + b"DVDRAM".ljust(8) + b"SECTOR DRIVE".ljust(16) + b"1.00"
-IN_FORCE = {0x01: bytes.fromhex("010a80000000000000000000"), 0x08: bytes.fromhex("080a00000000000000000000")}
-CHANGEABLE = {0x01: bytes([0x01, 0x0a]) + bytes(10), 0x08: bytes([0x08, 0x0a, 0x04]) + bytes(9)}
-CACHING, WCE = 0x08, 0x04
-"""The caching page, and the bit of its byte 2 by which writes are cached."""
-ALL_PAGES = 0x3f
 
 
 class Code(Enum):
@@ -26,6 +22,7 @@ class Code(Enum):
     REQUEST_SENSE = 0x03
     FORMAT_UNIT = 0x04
     INQUIRY = 0x12
+    MODE_SENSE_6 = 0x1a
     START_STOP_UNIT = 0x1b
     PREVENT_ALLOW = 0x1e
     READ_FORMAT_CAPACITIES = 0x23
@@ -36,24 +33,30 @@ class Code(Enum):
     VERIFY = 0x2f
     SYNCHRONIZE_CACHE = 0x35
     GET_CONFIGURATION = 0x46
+    GET_EVENT_STATUS = 0x4a
+    READ_DISC_INFORMATION = 0x51
     MODE_SELECT = 0x55
     MODE_SENSE = 0x5a
     READ_12 = 0xa8
     WRITE_12 = 0xaa
     READ_DVD_STRUCTURE = 0xad
+    SET_STREAMING = 0xb6
 
 
 CODES = {code.value: code for code in Code}
 READS = (Code.READ_10, Code.READ_12)
 WRITES = (Code.WRITE_10, Code.WRITE_AND_VERIFY, Code.WRITE_12)
+MODE_SENSES = (Code.MODE_SENSE_6, Code.MODE_SENSE)
 TRANSFERS = (*READS, *WRITES, Code.VERIFY)
-UNTOLD = (Code.REQUEST_SENSE, Code.INQUIRY, Code.GET_CONFIGURATION)
+UNTOLD = (Code.REQUEST_SENSE, Code.INQUIRY, Code.GET_CONFIGURATION, Code.GET_EVENT_STATUS)
 """The commands that do not wait for the attention."""
 NEED_FORMATTED = (*TRANSFERS, Code.TEST_UNIT_READY, Code.READ_CAPACITY, Code.SYNCHRONIZE_CACHE,
                   Code.READ_DVD_STRUCTURE)
+NEED_DISC = (*NEED_FORMATTED, Code.FORMAT_UNIT, Code.READ_DISC_INFORMATION)
 ALLOCATIONS = {
     Code.REQUEST_SENSE: (4, 1), Code.INQUIRY: (3, 2), Code.READ_FORMAT_CAPACITIES: (7, 2),
     Code.GET_CONFIGURATION: (7, 2), Code.MODE_SENSE: (7, 2), Code.READ_DVD_STRUCTURE: (8, 2),
+    Code.MODE_SENSE_6: (4, 1), Code.GET_EVENT_STATUS: (7, 2), Code.READ_DISC_INFORMATION: (7, 2),
 }
 """Where the allocation length stands, and in how many bytes."""
 
@@ -85,7 +88,8 @@ class Block(NamedTuple):
             return 0
         if self.code in WRITES:
             return SECTOR * self.sectors if self.sectors <= MOST_SECTORS else 0
-        return {Code.FORMAT_UNIT: 12, Code.MODE_SELECT: number(self.bytes, 7, 2)}.get(self.code, 0)
+        return {Code.FORMAT_UNIT: 12, Code.MODE_SELECT: number(self.bytes, 7, 2),
+                Code.SET_STREAMING: 28}.get(self.code, 0)
 
     @property
     def has_lawful_fields(self) -> bool:
@@ -94,14 +98,22 @@ class Block(NamedTuple):
             return self.sectors <= MOST_SECTORS
         lawful: Dict[Optional[Code], Callable[[], bool]] = {
             Code.FORMAT_UNIT: lambda: byte[1] & 0xf7 == 0x11,
-            Code.INQUIRY: lambda: not byte[1] & 0x01,
+            Code.INQUIRY: lambda: not byte[2],
             Code.VERIFY: lambda: not byte[1] & 0x02,
             Code.GET_CONFIGURATION: lambda: byte[1] & 0x03 != 3,
+            Code.GET_EVENT_STATUS: lambda: bool(byte[1] & 0x01),
+            Code.READ_DISC_INFORMATION: lambda: not byte[1] & 0x07,
             Code.MODE_SELECT: lambda: byte[1] & 0x11 == 0x10,
-            Code.MODE_SENSE: lambda: byte[2] & 0x3f in (*IN_FORCE, ALL_PAGES),
+            Code.MODE_SENSE_6: lambda: byte[2] & 0x3f in PAGE_CODES,
+            Code.MODE_SENSE: lambda: byte[2] & 0x3f in PAGE_CODES,
             Code.READ_DVD_STRUCTURE: lambda: byte[7] in (0x08, 0x0a),
         }
         return lawful.get(self.code, lambda: True)()
+
+    @property
+    def moves_disc(self) -> bool:
+        """Whether the disc is to be loaded or taken out: with a power condition it is not."""
+        return self.code == Code.START_STOP_UNIT and self.bytes[4] & 0xf2 == 0x02
 
 
 def pages_of(data: bytes) -> List[bytes]:
@@ -124,7 +136,7 @@ def judge_fields(block: Block, data: bytes) -> None:
     the list of a format: whatever the drive is then, and whatever the disc."""
     if block.is_too_short or not block.has_lawful_fields:
         raise Check(5, 0x24, 0x00)
-    if block.code == Code.MODE_SENSE and block.bytes[2] >> 6 == 3:
+    if block.code in MODE_SENSES and block.bytes[2] >> 6 == 3:
         raise Check(5, 0x39, 0x00)
     if len(data) != block.takes or block.code == Code.MODE_SELECT and len(data) not in (0, 8, 20, 32):
         raise Check(5, 0x1a, 0x00)
@@ -170,12 +182,12 @@ class Target:
         judge_fields(block, data)
         if code == Code.MODE_SELECT and not is_taken_by_mode_select(data):
             raise Check(5, 0x26, 0x00)
-        if code == Code.START_STOP_UNIT and block.bytes[4] & 0x03 == 0x02 and self.prevented:
+        if block.moves_disc and not block.bytes[4] & 0x01 and self.prevented:
             raise Check(5, 0x53, 0x02)
         self.judge_by_disc(block, data)
 
     def judge_by_disc(self, block: Block, data: bytes) -> None:
-        if self.out and (block.code in NEED_FORMATTED or block.code == Code.FORMAT_UNIT):
+        if self.out and block.code in NEED_DISC:
             raise Check(2, 0x3a, 0x00)
         expands = block.code == Code.FORMAT_UNIT and data[8] >> 2 == 1
         if self.drive.lists is None and (block.code in NEED_FORMATTED or expands):
@@ -199,21 +211,35 @@ class Target:
             self.mode_select(data)
         elif block.code == Code.FORMAT_UNIT:
             self.format_unit(block, data)
-        elif block.code == Code.START_STOP_UNIT and block.bytes[4] & 0x02:
+        elif block.moves_disc:
             self.out = not block.bytes[4] & 0x01
         elif block.code == Code.PREVENT_ALLOW:
             self.prevented = bool(block.bytes[4] & 0x01)
+        return self.reply(block.code, block.bytes)
+
+    def reply(self, code: Optional[Code], byte: bytes) -> bytes:
+        inside, is_formatted = not self.out, self.drive.lists is not None
         replies: Dict[Optional[Code], Callable[[], bytes]] = {
             Code.REQUEST_SENSE: self.sense,
-            Code.INQUIRY: lambda: INQUIRY,
+            Code.INQUIRY: lambda: VITAL_PAGES if byte[1] & 0x01 else INQUIRY,
             Code.READ_FORMAT_CAPACITIES: self.format_capacities,
             Code.READ_CAPACITY: lambda: (self.drive.sectors - 1).to_bytes(4, "big")
             + SECTOR.to_bytes(4, "big"),
-            Code.GET_CONFIGURATION: lambda: self.configuration(number(block.bytes, 2, 2)),
-            Code.MODE_SENSE: lambda: mode_pages(block.bytes[2], self.drive.caches),
-            Code.READ_DVD_STRUCTURE: lambda: self.structure(block.bytes[7]),
+            Code.GET_CONFIGURATION: lambda: configuration(
+                byte[1] & 0x03, number(byte, 2, 2), inside, is_formatted,
+                self.drive.sectors if is_formatted else 0),
+            Code.GET_EVENT_STATUS: lambda: events(bool(byte[4] & 0x10), inside),
+            Code.READ_DISC_INFORMATION: lambda: disc_information(is_formatted),
+            Code.MODE_SENSE_6: lambda: self.mode_sense(byte[2], short=True),
+            Code.MODE_SENSE: lambda: self.mode_sense(byte[2], short=False),
+            Code.READ_DVD_STRUCTURE: lambda: self.structure(byte[7]),
         }
-        return replies.get(block.code, bytes)()
+        return replies.get(code, bytes)()
+
+    def mode_sense(self, byte: int, short: bool) -> bytes:
+        pages = mode_pages(byte, self.drive.caches, self.prevented)
+        header = bytes([3 + len(pages), 0, 0, 0]) if short else (6 + len(pages)).to_bytes(2, "big") + bytes(6)
+        return header + pages
 
     def format_unit(self, block: Block, data: bytes) -> None:
         if data[8] >> 2 == 1:
@@ -235,16 +261,14 @@ class Target:
                 + bytes([0x0a, 0, 0, 0, 0, told.code, told.qualifier]) + bytes(4))
 
     def format_capacities(self) -> bytes:
-        if self.out or self.drive.lists is None:
-            sectors, what = self.drive.sectors_after_format, 3 if self.out else 1
+        given = self.drive.sectors_after_format
+        if self.out:
+            told = capacity(given, 3)
+        elif self.drive.lists is None:
+            told = capacity(given, 1) + capacity(given, 0)
         else:
-            sectors, what = self.drive.sectors, 2
-        return bytes([0, 0, 0, 8]) + sectors.to_bytes(4, "big") + bytes([what]) + SECTOR.to_bytes(3, "big")
-
-    def configuration(self, first: int) -> bytes:
-        profile = bytes([0, 0 if self.out else 0x12])
-        features = b"" if first else bytes([0, 0, 0x03, 0x04, 0, 0x12, 0 if self.out else 1, 0])
-        return (4 + len(features)).to_bytes(4, "big") + bytes(2) + profile + features
+            told = capacity(self.drive.sectors, 2) + capacity(given, 0)
+        return len(told).to_bytes(4, "big") + told
 
     def structure(self, which: int) -> bytes:
         lists = self.drive.lists
@@ -254,13 +278,3 @@ class Target:
         numbers = (len(lists.free(lists.primary)), len(lists.free(lists.supplementary)),
                    len(lists.supplementary))
         return bytes.fromhex("000e0000") + b"".join(count.to_bytes(4, "big") for count in numbers)
-
-
-def mode_pages(byte: int, caches: bool) -> bytes:
-    """The reply of MODE SENSE, by byte 2 of its command block, and whether the write cache is on."""
-    values = dict(CHANGEABLE if byte >> 6 == 1 else IN_FORCE)
-    if byte >> 6 == 0 and caches:
-        values[CACHING] = CHANGEABLE[CACHING]
-    wanted = byte & ALL_PAGES
-    pages = b"".join(page for code, page in values.items() if wanted in (code, ALL_PAGES))
-    return (6 + len(pages)).to_bytes(2, "big") + bytes(6) + pages

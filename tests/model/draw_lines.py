@@ -38,7 +38,7 @@ class Lines:
 
     def line(self) -> str:
         draws: Dict[Callable[[], str], float] = {
-            self.transfer: 20, self.fail: 2, self.wear: 2, self.cut: 0.5, self.query: 6, self.ejection: 1.5,
+            self.transfer: 20, self.fail: 2, self.wear: 2, self.cut: 0.5, self.query: 10, self.ejection: 2,
             self.mode_select: 1, self.cache: 1, self.any_command: 1, self.spoiled_command: 1.5,
             self.no_answer: 0.5, self.press: 0.15, self.no_disc: 0.15,
         }
@@ -166,17 +166,40 @@ class Lines:
         """A command that only replies, with an allocation length that is often too small for the reply."""
         long, short = self.random.choice([0, 1, 8, 255, 4_096]), self.random.choice([0, 3, 18, 255])
         length = [long >> 8, long & 0xff]
-        page = self.random.choice([0x01, 0x08, 0x3f, 0x41, 0x48, 0x7f, 0x81, 0xbf, 0xc1, 0x05, 0xff])
-        kind, first = self.random.randrange(4), self.random.choice([0, 0, 1])
         which = self.random.choice([0x08, 0x0a, 0x0a, 0x00])
         return self.random.choice([
             self.cdb(Code.TEST_UNIT_READY, *bytes(5)), self.cdb(Code.REQUEST_SENSE, 0, 0, 0, short, 0),
-            self.cdb(Code.REQUEST_SENSE, 0, 0, 0, 18, 0), self.cdb(Code.INQUIRY, 0, 0, *length, 0),
+            self.cdb(Code.REQUEST_SENSE, 0, 0, 0, 18, 0),
             self.cdb(Code.READ_FORMAT_CAPACITIES, *bytes(6), *length, 0),
             self.cdb(Code.READ_CAPACITY, *bytes(9)), self.cdb(Code.SYNCHRONIZE_CACHE, *bytes(9)),
-            self.cdb(Code.GET_CONFIGURATION, kind, 0, first, 0, 0, 0, *length, 0),
-            self.cdb(Code.MODE_SENSE, 0, page, 0, 0, 0, 0, *length, 0),
+            self.mode_sense(length), self.mode_sense(length), self.of_the_drive(length),
+            self.of_the_drive(length),
             self.cdb(Code.READ_DVD_STRUCTURE, 0, 0, 0, 0, 0, 0, which, *length, 0, 0),
+        ])
+
+    def mode_sense(self, length: List[int]) -> str:
+        """Mode pages are asked for, behind either header."""
+        page = self.random.choice([0x01, 0x08, 0x2a, 0x3f, 0x41, 0x48, 0x6a, 0x7f, 0x81, 0xaa, 0xbf, 0xc1,
+                                   0x05, 0xea, 0xff])
+        short = self.random.choice([4, 36, 60, 255])
+        return self.random.choice([self.cdb(Code.MODE_SENSE, 0, page, 0, 0, 0, 0, *length, 0),
+                                   self.cdb(Code.MODE_SENSE_6, 0, page, 0, short, 0)])
+
+    def of_the_drive(self, length: List[int]) -> str:
+        """What a host asks before it uses a drive: what it is and can do, and what disc is in it."""
+        kind = self.random.choice([0, 0, 1, 1, 2, 2, 2, 3])
+        first = self.random.choice([0, 0, 1, 3, 0x10, 0x1f, 0x20, 0x20, 0x23, 0x24, 0x28, 0xff])
+        vital, page = self.one_of({(0, 0): 3, (1, 0): 3, (1, 0x80): 1, (0, 1): 1})
+        polled, events = self.random.choice([1, 1, 1, 0]), self.random.choice([0x10, 0x10, 0xff, 0x02, 0])
+        return self.random.choice([
+            self.cdb(Code.GET_CONFIGURATION, kind, 0, first, 0, 0, 0, *length, 0),
+            self.cdb(Code.GET_CONFIGURATION, kind, 0, first, 0, 0, 0, 0, 84, 0),
+            self.cdb(Code.GET_CONFIGURATION, kind, 1, first, 0, 0, 0, *length, 0),
+            self.cdb(Code.INQUIRY, vital, page, *length, 0),
+            self.cdb(Code.GET_EVENT_STATUS, polled, 0, 0, events, 0, 0, *length, 0),
+            self.cdb(Code.READ_DISC_INFORMATION, self.random.choice([0, 0, 0, 1, 8]), *bytes(5), *length,
+                     0),
+            self.cdb(Code.SET_STREAMING, *bytes(11), data=self.random.choice(["fill 00", "count 01", ""])),
         ])
 
     def request_sense(self) -> str:
@@ -188,13 +211,14 @@ class Lines:
     def ejection(self) -> str:
         """The disc is ejected or loaded, maybe after its removal was prevented or allowed."""
         prevention = self.cdb(Code.PREVENT_ALLOW, 0, 0, 0, self.random.choice([0, 1]), 0)
-        ejection = self.cdb(Code.START_STOP_UNIT, 0, 0, 0, self.random.choice([0, 1, 2, 2, 3, 3, 0x13]), 0)
+        bits = self.random.choice([0, 1, 2, 2, 3, 3, 0x12, 0x13, 0xf2])
+        ejection = self.cdb(Code.START_STOP_UNIT, 0, 0, 0, bits, 0)
         lines = [prevention] if self.random.random() < 0.5 else []
         return "\n".join([*lines, ejection, *self.several(self.query, 0, 2)])
 
     def mode_select(self) -> str:
         choices: List[List[int]] = [[], [0x01], [0x08], [0x01, 0x08], [0x08, 0x81], [0x88, 0x88], [0x09],
-                                    [0x01, 0x08, 0x01]]
+                                    [0x2a], [0x01, 0x08, 0x01]]
         pages = self.random.choice(choices)
         in_force = {0x01: b"\x0a\x80", 0x08: bytes([0x0a, self.random.choice([0, 4])])}
         data = bytearray(8) + b"".join(bytes([page]) + in_force.get(page & 0x7f, b"").ljust(11, b"\0")
@@ -217,7 +241,7 @@ class Lines:
 
     def unknown(self) -> str:
         """A command of a code that the drive does not have."""
-        return f"cdb {self.random.choice([0x01, 0x1a, 0x5b, 0xa9, 0xff]):02x}0000000000"
+        return f"cdb {self.random.choice([0x01, 0x15, 0x43, 0x52, 0x5b, 0xa9, 0xff]):02x}0000000000"
 
     def spoiled_command(self) -> str:
         """A command in which a digit is another, or some are missing, or more follow."""

@@ -11,10 +11,11 @@ from enum import Enum
 from functools import partial
 from typing import Callable, Dict, FrozenSet, Iterator, List, NamedTuple, Optional, Set, Tuple, Union
 
-from .commands import CACHING, READS, WCE, WRITES, Block, Code, judge_fields, pages_of
+from .commands import READS, WRITES, Block, Code, judge_fields, pages_of
 from .drive import Check
 from .lists import SECTORS_IN_BLOCK, number
 from .medium import BLOCK, HEADER, SECTOR
+from .replies import CACHING, WCE
 from .reports import COMMAND, EVENT, Answer, NoReport, Report
 from .script import End, Line, data_of, line_of, lines_of
 

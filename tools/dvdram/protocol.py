@@ -27,8 +27,8 @@ FORMS = re.compile(
 
 
 COUNTED = {
-    0x28: (7, 9), 0xA8: (6, 10), 0x03: (4, 5), 0x12: (3, 5), 0x23: (7, 9), 0x46: (7, 9), 0x5A: (7, 9),
-    0xAD: (8, 10),
+    0x28: (7, 9), 0xA8: (6, 10), 0x03: (4, 5), 0x12: (3, 5), 0x1A: (4, 5), 0x23: (7, 9), 0x46: (7, 9),
+    0x4A: (7, 9), 0x51: (7, 9), 0x5A: (7, 9), 0xAD: (8, 10),
 }
 """Where a command block says how many sectors it reads, or how many bytes of a reply it takes."""
 

@@ -1,4 +1,4 @@
--- What a command block asks for, with its data, or why it is refused. For whoever decodes command blocks, and whoever says
+-- What a command block asks for, with its data, or why it is refused. For decoding command blocks, and for saying
 -- what a command does.
 use Rattle.std.specs.Prelude.{◌≡◌, ℕ, ◌*◌, ◌<◌, ◌≤◌, Bool, true, false, ◌&&◌, ◌||◌, not, nat_lt, ◌==◌, if◌then◌else◌, IsTrue, ⊤, Option, Some, None, Result, Ok, Err, List, [], ◌∷◌, length, slice_index}
 use Rattle.std.specs.List.{find}
@@ -17,18 +17,21 @@ use Rattle.model_cdb.specs.declared.commands.Command.{Command}
 use Rattle.model_cdb.specs.declared.commands.Command.TheVariants as commands
 
 -- A field of the command block, which is long enough, has a value that the drive does not take: more sectors than a command
--- moves; a format without a parameter list, with another code than 1, or with a bit above; INQUIRY of vital product data;
--- VERIFY against the host's bytes; the fourth kind of feature request; a list of mode pages in the old layout, or to be
--- saved; the code of no page; another structure than the two. (After INCITS MMC and SPC; which values are taken is this
--- project's own.)
+-- moves; a format without a parameter list, with another code than 1, or with a bit above; INQUIRY with a page code, of vital
+-- product data or not; VERIFY against the host's bytes; the fourth kind of feature request; events that are to be told once they
+-- come; another kind of disc information; a list of mode pages in the old layout, or to be saved; the code of no page; another
+-- structure than the two. (After INCITS MMC and SPC; which values are taken is this project's own.)
 abbrev pub has_refused_field : Operation → List ℕ → Bool
 has_refused_field operations.FormatUnit cdb = not (flag 1 4 cdb) || not (bits 1 0 3 cdb == 1) || not (bits 1 5 3 cdb == 0)
-has_refused_field operations.Inquiry cdb = flag 1 0 cdb
+has_refused_field operations.Inquiry cdb = not (slice_index cdb 2 == 0)
+has_refused_field operations.ModeSense6 cdb = not (is_page_code (bits 2 0 6 cdb))
 has_refused_field operations.Read10 cdb = nat_lt TRANSFER_LIMIT (field 7 2 cdb)
 has_refused_field operations.Write10 cdb = nat_lt TRANSFER_LIMIT (field 7 2 cdb)
 has_refused_field operations.WriteAndVerify10 cdb = nat_lt TRANSFER_LIMIT (field 7 2 cdb)
 has_refused_field operations.Verify10 cdb = flag 1 1 cdb
 has_refused_field operations.GetConfiguration cdb = bits 1 0 2 cdb == 3
+has_refused_field operations.GetEventStatusNotification cdb = not (flag 1 0 cdb)
+has_refused_field operations.ReadDiscInformation cdb = not (bits 1 0 3 cdb == 0)
 has_refused_field operations.ModeSelect10 cdb = not (flag 1 4 cdb) || flag 1 0 cdb
 has_refused_field operations.ModeSense10 cdb = not (is_page_code (bits 2 0 6 cdb))
 has_refused_field operations.Read12 cdb = nat_lt TRANSFER_LIMIT (field 6 4 cdb)
@@ -42,6 +45,7 @@ has_bad_field operation cdb = nat_lt (length cdb) (command operation).bytes || h
 
 -- the saved values of mode pages are asked for, and none are saved (after INCITS SPC)
 abbrev pub asks_for_saved_values : Operation → List ℕ → Bool
+asks_for_saved_values operations.ModeSense6 cdb = bits 2 6 2 cdb == 3
 asks_for_saved_values operations.ModeSense10 cdb = bits 2 6 2 cdb == 3
 asks_for_saved_values _ cdb = false
 
@@ -91,15 +95,18 @@ refusals operation cdb payload =
 abbrev pub format_kind : (cdb payload : List ℕ) → Kind
 format_kind cdb payload = if flag 1 7 payload && flag 1 5 payload then Rewrite else Full (flag 1 3 cdb)
 
--- What a command asks for that is not refused: the table of the fields that are looked at. No other byte or bit is. (After
--- INCITS MMC and SPC.)
+-- What a command asks for that is not refused: the table of the fields that are looked at. No other byte or bit is. With a
+-- power condition, in the upper four bits of byte 4, START STOP UNIT neither loads nor takes out. (After INCITS MMC and SPC.)
 abbrev pub meaning : Operation → (cdb payload : List ℕ) → Command
 meaning operations.TestUnitReady cdb payload = commands.TestUnitReady
 meaning operations.RequestSense cdb payload = commands.RequestSense (slice_index cdb 4)
 meaning operations.FormatUnit cdb payload =
     if format_type payload == 1 then commands.Expand (field 4 4 payload) else commands.Format (format_kind cdb payload)
-meaning operations.Inquiry cdb payload = commands.Inquiry (field 3 2 cdb)
-meaning operations.StartStopUnit cdb payload = commands.StartStop (flag 4 0 cdb) (flag 4 1 cdb)
+meaning operations.Inquiry cdb payload = commands.Inquiry (flag 1 0 cdb) (field 3 2 cdb)
+meaning operations.ModeSense6 cdb payload =
+    commands.ModeSense true (bits 2 6 2 cdb) (bits 2 0 6 cdb) (slice_index cdb 4)
+meaning operations.StartStopUnit cdb payload =
+    commands.StartStop (flag 4 0 cdb) (flag 4 1 cdb && bits 4 4 4 cdb == 0)
 meaning operations.PreventAllowMediumRemoval cdb payload = commands.Prevent (flag 4 0 cdb)
 meaning operations.ReadFormatCapacities cdb payload = commands.FormatCapacities (field 7 2 cdb)
 meaning operations.ReadCapacity10 cdb payload = commands.ReadCapacity
@@ -109,11 +116,15 @@ meaning operations.WriteAndVerify10 cdb payload = commands.Write (field 2 4 cdb)
 meaning operations.Verify10 cdb payload = commands.Verify (field 2 4 cdb) (field 7 2 cdb)
 meaning operations.SynchronizeCache cdb payload = commands.Synchronize
 meaning operations.GetConfiguration cdb payload = commands.Configuration (bits 1 0 2 cdb) (field 2 2 cdb) (field 7 2 cdb)
+meaning operations.GetEventStatusNotification cdb payload = commands.Events (flag 4 4 cdb) (field 7 2 cdb)
+meaning operations.ReadDiscInformation cdb payload = commands.DiscInformation (field 7 2 cdb)
 meaning operations.ModeSelect10 cdb payload = commands.ModeSelect
-meaning operations.ModeSense10 cdb payload = commands.ModeSense (bits 2 6 2 cdb) (bits 2 0 6 cdb) (field 7 2 cdb)
+meaning operations.ModeSense10 cdb payload =
+    commands.ModeSense false (bits 2 6 2 cdb) (bits 2 0 6 cdb) (field 7 2 cdb)
 meaning operations.Read12 cdb payload = commands.Read (field 2 4 cdb) (field 6 4 cdb)
 meaning operations.Write12 cdb payload = commands.Write (field 2 4 cdb) (field 6 4 cdb) (flag 1 3 cdb)
 meaning operations.ReadDvdStructure cdb payload = commands.Structure (slice_index cdb 7) (field 8 2 cdb)
+meaning operations.SetStreaming cdb payload = commands.Streaming
 
 -- a command, unless there is a reason to refuse it
 abbrev pub unless : Option Refusal → Command → Result Command Sense
@@ -141,5 +152,5 @@ IsWithinLimits payload (commands.Read lba n) = n ≤ TRANSFER_LIMIT
 IsWithinLimits payload (commands.Write lba n fua) = (n ≤ TRANSFER_LIMIT) × (length payload ≡ 2048 * n)
 IsWithinLimits payload (commands.Verify lba n) = n ≤ 65535
 IsWithinLimits payload (commands.Configuration rt start alloc) = rt < 3
-IsWithinLimits payload (commands.ModeSense control page alloc) = (control < 3) × IsTrue (is_page_code page)
+IsWithinLimits payload (commands.ModeSense short control page alloc) = (control < 3) × IsTrue (is_page_code page)
 IsWithinLimits payload _ = ⊤

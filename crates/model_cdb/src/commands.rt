@@ -24,6 +24,8 @@ pub enum Command {
     },
     /// What kind of drive is this?
     Inquiry {
+        /// The EVPD bit: in place of that, which pages of vital product data are there?
+        vital: bool,
         /// The allocation length.
         alloc: u32,
     },
@@ -31,7 +33,7 @@ pub enum Command {
     StartStop {
         /// The Start bit: the disc is to be loaded.
         start: bool,
-        /// The LoEj bit: the disc is to be loaded or taken out. Without it nothing is to be done.
+        /// The LoEj bit, without a power condition: the disc is to be loaded or taken out. Else nothing is to be done.
         eject: bool,
     },
     /// Allow the disc to be taken out, or not.
@@ -57,7 +59,7 @@ pub enum Command {
     Write {
         /// The first sector.
         lba: u32,
-        /// How many sectors, at most 1,024. The data are so many sectors.
+        /// How many sectors, at most 1,024. The data are n sectors.
         n: u32,
         /// Whether they are to reach the medium before the answer.
         fua: bool,
@@ -80,10 +82,24 @@ pub enum Command {
         /// The allocation length.
         alloc: u32,
     },
+    /// What has happened since the last time?
+    Events {
+        /// Whether events of the medium are asked for.
+        media: bool,
+        /// The allocation length.
+        alloc: u32,
+    },
+    /// What kind of disc is in the drive?
+    DiscInformation {
+        /// The allocation length.
+        alloc: u32,
+    },
     /// Set mode pages, by the command's data.
     ModeSelect,
     /// Give mode pages.
     ModeSense {
+        /// Whether they are to come behind the shorter header, which has four bytes.
+        short: bool,
         /// The page control, from 0 to 2: current, changeable or default values.
         control: u8,
         /// The code of a page, or that of all.
@@ -98,4 +114,6 @@ pub enum Command {
         /// The allocation length.
         alloc: u32,
     },
+    /// Set the speed of a stream, by the command's data.
+    Streaming,
 }

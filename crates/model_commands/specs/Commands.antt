@@ -3,10 +3,10 @@ use Rattle.std.specs.Prelude.{ℕ, ◌*◌, nat_lt, nat_le, ◌==◌, if◌then�
 use Rattle.byteorder.specs.Endian.{big_number}
 use Rattle.model_commands.specs.declared.TheConstants.{TRANSFER_LIMIT}
 use Rattle.model_commands.specs.declared.Operation.{Operation}
-use Rattle.model_commands.specs.declared.Operation.TheVariants.{TestUnitReady, RequestSense, FormatUnit, Inquiry, StartStopUnit, PreventAllowMediumRemoval, ReadFormatCapacities, ReadCapacity10, Read10, Write10, WriteAndVerify10, Verify10, SynchronizeCache, GetConfiguration, ModeSelect10, ModeSense10, Read12, Write12, ReadDvdStructure}
+use Rattle.model_commands.specs.declared.Operation.TheVariants.{TestUnitReady, RequestSense, FormatUnit, Inquiry, ModeSense6, StartStopUnit, PreventAllowMediumRemoval, ReadFormatCapacities, ReadCapacity10, Read10, Write10, WriteAndVerify10, Verify10, SynchronizeCache, GetConfiguration, GetEventStatusNotification, ReadDiscInformation, ModeSelect10, ModeSense10, Read12, Write12, ReadDvdStructure, SetStreaming}
 
--- The data that go with a command: none; so many bytes; so many sectors of 2,048 bytes, or so many bytes, as a field
--- of the command block tells, which lies at this byte and has so many bytes. (After INCITS MMC and SPC.)
+-- The data that go with a command: none; n bytes; n sectors of 2,048 bytes, or n bytes, as a field
+-- of the command block tells, which lies at this byte and has n bytes. (After INCITS MMC and SPC.)
 pub data Data : Type 0 where
   NoData : Data
   Bytes : ℕ → Data
@@ -29,6 +29,7 @@ command TestUnitReady = row 0x00 6 NoData
 command RequestSense = row 0x03 6 NoData
 command FormatUnit = row 0x04 6 (Bytes 12)
 command Inquiry = row 0x12 6 NoData
+command ModeSense6 = row 0x1a 6 NoData
 command StartStopUnit = row 0x1b 6 NoData
 command PreventAllowMediumRemoval = row 0x1e 6 NoData
 command ReadFormatCapacities = row 0x23 10 NoData
@@ -39,18 +40,22 @@ command WriteAndVerify10 = row 0x2e 10 (Sectors 7 2)
 command Verify10 = row 0x2f 10 NoData
 command SynchronizeCache = row 0x35 10 NoData
 command GetConfiguration = row 0x46 10 NoData
+command GetEventStatusNotification = row 0x4a 10 NoData
+command ReadDiscInformation = row 0x51 10 NoData
 command ModeSelect10 = row 0x55 10 (Listed 7 2)
 command ModeSense10 = row 0x5a 10 NoData
 command Read12 = row 0xa8 12 NoData
 command Write12 = row 0xaa 12 (Sectors 6 4)
 command ReadDvdStructure = row 0xad 12 NoData
+command SetStreaming = row 0xb6 12 (Bytes 28)
 
 -- all of the table's commands
 abbrev pub operations : List Operation
 operations =
-    TestUnitReady ∷ RequestSense ∷ FormatUnit ∷ Inquiry ∷ StartStopUnit ∷ PreventAllowMediumRemoval
+    TestUnitReady ∷ RequestSense ∷ FormatUnit ∷ Inquiry ∷ ModeSense6 ∷ StartStopUnit ∷ PreventAllowMediumRemoval
     ∷ ReadFormatCapacities ∷ ReadCapacity10 ∷ Read10 ∷ Write10 ∷ WriteAndVerify10 ∷ Verify10 ∷ SynchronizeCache
-    ∷ GetConfiguration ∷ ModeSelect10 ∷ ModeSense10 ∷ Read12 ∷ Write12 ∷ ReadDvdStructure ∷ []
+    ∷ GetConfiguration ∷ GetEventStatusNotification ∷ ReadDiscInformation ∷ ModeSelect10 ∷ ModeSense10 ∷ Read12
+    ∷ Write12 ∷ ReadDvdStructure ∷ SetStreaming ∷ []
 
 -- the command with this operation code, if the table has one
 abbrev pub operation_with : ℕ → Option Operation
@@ -60,7 +65,7 @@ operation_with code = find (λ operation. (command operation).code == code) oper
 abbrev pub operation_of : List ℕ → Option Operation
 operation_of cdb = operation_with (slice_index cdb 0)
 
--- the number in this field of a command block: so many bytes from this one on, the highest first
+-- the number in this field of a command block: n bytes from at on, the highest first
 abbrev pub field : (at width : ℕ) → List ℕ → ℕ
 field at width cdb = big_number width (drop at cdb)
 

@@ -9,7 +9,7 @@ ghost use Rattle.model_commands.specs.Commands.{command, operation_with};
 /// How many sectors a command reads or writes at most.
 pub const TRANSFER_LIMIT: u32 = 1_024;
 
-/// How many bytes of data a command takes at most: those of so many sectors.
+/// How many bytes of data a command takes at most: those of as many sectors as one moves.
 pub const DATA_LIMIT: usize = 2_097_152;
 
 /// The numbers that contracts share with the code.
@@ -29,6 +29,8 @@ pub enum Operation {
     FormatUnit,
     /// What kind of drive is this?
     Inquiry,
+    /// Give mode pages, behind a shorter header.
+    ModeSense6,
     /// Load the disc, or take it out.
     StartStopUnit,
     /// Allow the disc to be taken out, or not.
@@ -49,6 +51,10 @@ pub enum Operation {
     SynchronizeCache,
     /// Which features has the drive?
     GetConfiguration,
+    /// What has changed since the last time?
+    GetEventStatusNotification,
+    /// What kind of disc is in the drive?
+    ReadDiscInformation,
     /// Set mode pages.
     ModeSelect10,
     /// Give mode pages.
@@ -59,6 +65,8 @@ pub enum Operation {
     Write12,
     /// Give what the disc says of itself.
     ReadDvdStructure,
+    /// Set the speed of a stream.
+    SetStreaming,
 }
 
 /// Each command has a code of its own, and is found by it. So the table has each command once.

@@ -1,4 +1,4 @@
--- What MODE SELECT(10) takes: for whoever takes the list, and whoever says what the command does.
+-- What MODE SELECT(10) takes: for taking the list, and for saying what the command does.
 use Rattle.std.specs.Prelude.{Bool, ◌==◌, ◌&&◌, not, if◌then◌else◌, ◌≡◌, ℕ, zero, suc, ◌+◌, ◌-◌, ◌*◌, ◌/◌, ◌%◌, ◌<◌, ◌⊎◌, List, [], ◌∷◌, length, take, drop, slice_index}
 use Rattle.model_modes.specs.declared.Page.{Page}
 use Rattle.model_modes.specs.declared.Page.TheVariants.{Caching}
@@ -25,7 +25,7 @@ pub record HasCurrentPages (bytes : List ℕ) : Type 0 where
   pub no_descriptors : take 2 (drop 6 bytes) ≡ 0 ∷ 0 ∷ []
   pub each : (k : ℕ) → k < count → IsCurrentPage (page_at bytes k)
 
--- so many bytes are no list of mode pages: none, or a header of 8 bytes and up to two pages of 12 (after INCITS SPC)
+-- n bytes are no list of mode pages: none, or a header of 8 bytes and up to two pages of 12 (after INCITS SPC)
 abbrev pub is_no_list_length : ℕ → Bool
 is_no_list_length bytes = not (bytes == 0) && not (bytes == 8) && not (bytes == 20) && not (bytes == 32)
 
@@ -37,7 +37,7 @@ IsTakenList bytes = (bytes ≡ []) ⊎ HasCurrentPages bytes
 abbrev pub is_caching : List ℕ → Bool
 is_caching page = slice_index page 0 % 128 == code Caching
 
--- Whether the write cache is on after the first so many pages of a list that is taken, where it was on or off before: as the
+-- Whether the write cache is on after the first n pages of a list that is taken, where it was on or off before: as the
 -- last caching page among them says by WCE, the only bit that its byte 2 may have.
 abbrev pub cached_by : (list : List ℕ) (was : Bool) (pages : ℕ) → Bool
 cached_by list was zero = was

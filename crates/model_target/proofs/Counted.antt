@@ -143,7 +143,7 @@ module _ (old new : CacheShown) (before after : Contents → Type 0) where
   done_counted host payload (commands.RequestSense alloc) answer data_in p = quietly answer data_in _ p
   done_counted host payload (commands.Format kind) answer data_in p = told old.drive new.drive answer _ p.answer_is (by_format old.drive new.drive p.out (format_faults old.drive new.drive kind p.out p.cause.0))
   done_counted host payload (commands.Expand sectors) answer data_in p = told old.drive new.drive answer _ p.answer_is (by_expand old.drive new.drive p.out (expand_faults old.drive new.drive sectors p.out p.cause.0))
-  done_counted host payload (commands.Inquiry alloc) answer data_in p = quietly answer data_in _ p
+  done_counted host payload (commands.Inquiry vital alloc) answer data_in p = quietly answer data_in _ p
   done_counted host payload (commands.StartStop start eject) answer data_in p = quietly answer data_in _ p
   done_counted host payload (commands.Prevent on) answer data_in p = quietly answer data_in _ p
   done_counted host payload (commands.FormatCapacities alloc) answer data_in p = quietly answer data_in _ p
@@ -153,9 +153,12 @@ module _ (old new : CacheShown) (before after : Contents → Type 0) where
   done_counted host payload (commands.Verify lba n) answer data_in p = told old.drive new.drive answer _ p.answer_is (verify_counted old.drive new.drive p.out (verify_faults old.drive new.drive lba n p.out p.cause.0))
   done_counted host payload commands.Synchronize answer data_in p = told old.drive new.drive answer _ p.answer_is (sync_counted old.drive new.drive p.out (of_sync CountsFaults counts_faults old new p.out p.cause))
   done_counted host payload (commands.Configuration rt start alloc) answer data_in p = quietly answer data_in _ p
+  done_counted host payload (commands.Events media alloc) answer data_in p = quietly answer data_in _ p
+  done_counted host payload (commands.DiscInformation alloc) answer data_in p = quietly answer data_in _ p
   done_counted host payload commands.ModeSelect answer data_in p = told old.drive new.drive answer answers.Good p.answer_is (ap (λ (s : CacheShown). faults s.drive) p.mode)
-  done_counted host payload (commands.ModeSense control page alloc) answer data_in p = quietly answer data_in _ p
+  done_counted host payload (commands.ModeSense short control page alloc) answer data_in p = quietly answer data_in _ p
   done_counted host payload (commands.Structure format alloc) answer data_in p = structure_counted (format == 0x08) alloc answer data_in p
+  done_counted host payload commands.Streaming answer data_in p = quietly answer data_in _ p
 
   by_counted : (host : Host) (payload : List ℕ) (judged : Result Command Sense) (answer : Answer) (data_in : List ℕ) → IsAnsweredBy old new before after host payload judged answer data_in → AnswerFaults old.drive new.drive answer
   by_counted host payload (Err why) answer data_in p = told old.drive new.drive answer (answers.Check why) p.answer_is (ap (λ (s : CacheShown). faults s.drive) p.untouched.same)

@@ -69,7 +69,7 @@ module _ (old new : CacheShown) (before after : Contents → Type 0) (s : Conten
           no_data = p.no_data;
         },
       )
-  done_found host payload (commands.Inquiry alloc) answer data_in p = answered_found answer _ data_in _ p
+  done_found host payload (commands.Inquiry vital alloc) answer data_in p = answered_found answer _ data_in _ p
   done_found host payload (commands.StartStop start eject) answer data_in p = answered_found answer _ data_in _ p
   done_found host payload (commands.Prevent on) answer data_in p = answered_found answer _ data_in _ p
   done_found host payload (commands.FormatCapacities alloc) answer data_in p = answered_found answer _ data_in _ p
@@ -124,10 +124,13 @@ module _ (old new : CacheShown) (before after : Contents → Type 0) (s : Conten
         },
       )
   done_found host payload (commands.Configuration rt start alloc) answer data_in p = answered_found answer _ data_in _ p
+  done_found host payload (commands.Events media alloc) answer data_in p = answered_found answer _ data_in _ p
+  done_found host payload (commands.DiscInformation alloc) answer data_in p = answered_found answer _ data_in _ p
   done_found host payload commands.ModeSelect answer data_in p =
       (s, p.stands s stood, record { mode = p.mode; stands = λ x e. e; answer_is = p.answer_is; no_data = p.no_data })
-  done_found host payload (commands.ModeSense control page alloc) answer data_in p = answered_found answer _ data_in _ p
+  done_found host payload (commands.ModeSense short control page alloc) answer data_in p = answered_found answer _ data_in _ p
   done_found host payload (commands.Structure format alloc) answer data_in p = structure_found (format == 0x08) alloc answer data_in p
+  done_found host payload commands.Streaming answer data_in p = answered_found answer _ data_in _ p
 
   by_found : (host : Host) (payload : List ℕ) (judged : Result Command Sense) (answer : Answer) (data_in : List ℕ) → IsAnsweredBy old new before after host payload judged answer data_in
       → FindsBy (λ was is. IsAnsweredBy old new was is host payload judged answer data_in)

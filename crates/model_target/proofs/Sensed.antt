@@ -150,7 +150,7 @@ module _ (P : Sense → Type 0) (old new : CacheShown) (all : HoldsOfSenses new.
     allowed_sensed (commands.RequestSense alloc) allowed = hindered (commands.RequestSense alloc) allowed
     allowed_sensed (commands.Format kind) allowed = hindered (commands.Format kind) allowed
     allowed_sensed (commands.Expand sectors) allowed = hindered (commands.Expand sectors) allowed
-    allowed_sensed (commands.Inquiry alloc) allowed = hindered (commands.Inquiry alloc) allowed
+    allowed_sensed (commands.Inquiry vital alloc) allowed = hindered (commands.Inquiry vital alloc) allowed
     allowed_sensed (commands.StartStop start eject) allowed = hindered (commands.StartStop start eject) allowed
     allowed_sensed (commands.Prevent on) allowed = hindered (commands.Prevent on) allowed
     allowed_sensed (commands.FormatCapacities alloc) allowed = hindered (commands.FormatCapacities alloc) allowed
@@ -160,8 +160,11 @@ module _ (P : Sense → Type 0) (old new : CacheShown) (all : HoldsOfSenses new.
     allowed_sensed (commands.Verify lba n) allowed = hindered (commands.Verify lba n) allowed
     allowed_sensed commands.Synchronize allowed = hindered commands.Synchronize allowed
     allowed_sensed (commands.Configuration rt start alloc) allowed = hindered (commands.Configuration rt start alloc) allowed
-    allowed_sensed (commands.ModeSense control page alloc) allowed = hindered (commands.ModeSense control page alloc) allowed
+    allowed_sensed (commands.Events media alloc) allowed = hindered (commands.Events media alloc) allowed
+    allowed_sensed (commands.DiscInformation alloc) allowed = hindered (commands.DiscInformation alloc) allowed
+    allowed_sensed (commands.ModeSense short control page alloc) allowed = hindered (commands.ModeSense short control page alloc) allowed
     allowed_sensed (commands.Structure format alloc) allowed = hindered (commands.Structure format alloc) allowed
+    allowed_sensed commands.Streaming allowed = hindered commands.Streaming allowed
 
     judged_sensed : (cdb : List ℕ) (wanted : Result Command Sense) → wanted ≡ asked host cdb payload → IsJudgedBy host formatted payload wanted (Err why) → P why
     judged_sensed cdb (Err first) wanted_is judged = known_sensed host (operation_of cdb) cdb payload why (let e : Err first ≡ asked host cdb payload = wanted_is in let f : Err why ≡ Err first = judged in cc)
@@ -183,7 +186,7 @@ module _ (P : Sense → Type 0) (old new : CacheShown) (all : HoldsOfSenses new.
     done_sensed host payload (commands.RequestSense alloc) data_in p = not_good data_in _ p
     done_sensed host payload (commands.Format kind) data_in p = format_check why p.out p.answer_is
     done_sensed host payload (commands.Expand sectors) data_in p = expand_check why p.out p.answer_is
-    done_sensed host payload (commands.Inquiry alloc) data_in p = not_good data_in _ p
+    done_sensed host payload (commands.Inquiry vital alloc) data_in p = not_good data_in _ p
     done_sensed host payload (commands.StartStop start eject) data_in p = not_good data_in _ p
     done_sensed host payload (commands.Prevent on) data_in p = not_good data_in _ p
     done_sensed host payload (commands.FormatCapacities alloc) data_in p = not_good data_in _ p
@@ -193,9 +196,12 @@ module _ (P : Sense → Type 0) (old new : CacheShown) (all : HoldsOfSenses new.
     done_sensed host payload (commands.Verify lba n) data_in p = read_check why p.out p.answer_is
     done_sensed host payload commands.Synchronize data_in p = sync_check why p.out p.answer_is p.cause
     done_sensed host payload (commands.Configuration rt start alloc) data_in p = not_good data_in _ p
+    done_sensed host payload (commands.Events media alloc) data_in p = not_good data_in _ p
+    done_sensed host payload (commands.DiscInformation alloc) data_in p = not_good data_in _ p
     done_sensed host payload commands.ModeSelect data_in p = absurd (let e : answers.Check why ≡ answers.Good = p.answer_is in cc)
-    done_sensed host payload (commands.ModeSense control page alloc) data_in p = not_good data_in _ p
+    done_sensed host payload (commands.ModeSense short control page alloc) data_in p = not_good data_in _ p
     done_sensed host payload (commands.Structure format alloc) data_in p = not_told (format == 0x08) alloc data_in p
+    done_sensed host payload commands.Streaming data_in p = not_good data_in _ p
 
     by_sensed : (host : Host) (cdb payload : List ℕ) (judged : Result Command Sense) (data_in : List ℕ) → IsJudged host (is_some old.drive.lists) cdb payload judged
         → IsAnsweredBy old new before after host payload judged (answers.Check why) data_in → P why

@@ -19,6 +19,7 @@ abbrev pub passes_attention : Operation → Bool
 passes_attention operations.Inquiry = true
 passes_attention operations.RequestSense = true
 passes_attention operations.GetConfiguration = true
+passes_attention operations.GetEventStatusNotification = true
 passes_attention _ = false
 
 -- the command is told of the attention, in place of being done

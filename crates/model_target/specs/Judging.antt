@@ -43,12 +43,14 @@ needs_disc (commands.Read lba n) = true
 needs_disc (commands.Write lba n fua) = true
 needs_disc (commands.Verify lba n) = true
 needs_disc commands.Synchronize = true
+needs_disc (commands.DiscInformation alloc) = true
 needs_disc (commands.Structure format alloc) = true
 needs_disc _ = false
 
--- the command needs a formatted disc: each that needs a disc, but a format
+-- the command needs a formatted disc: each that needs a disc, but a format, and one that asks what kind of disc it is
 abbrev pub needs_format : Command → Bool
 needs_format (commands.Format kind) = false
+needs_format (commands.DiscInformation alloc) = false
 needs_format command = needs_disc command
 
 -- the reasons against a command that is asked for, in their order: 5/53/02, 2/3A/00, 3/31/00

@@ -1,5 +1,5 @@
 -- The senses that a command may be answered with, apart from their information. For the law that there are no others, and for
--- whoever counts answers by their sense.
+-- counting answers by their sense.
 use Rattle.std.specs.Prelude.{None, List, [], ◌∷◌}
 use Rattle.std.specs.List.{Contains}
 use Rattle.model_sense.specs.declared.sense.Sense.{Sense}

@@ -37,7 +37,7 @@ use Rattle.model_cdb.specs.declared.commands.Command.TheVariants as commands
 use Rattle.model_target.specs.declared.host.Host.{Host}
 use Rattle.model_target.specs.Host.{powered_on, done_by, with_kept_sense, attention_after}
 use Rattle.model_target.specs.Judging.{IsJudged}
-use Rattle.model_target.specs.Replies.{sense_reply, inquiry_reply, capacity_reply, configuration_reply, format_capacities_reply, structure_reply, spares_reply}
+use Rattle.model_target.specs.Replies.{sense_reply, inquiry_by, capacity_reply, configuration_reply, events_reply, disc_reply, format_capacities_reply, structure_reply, spares_reply}
 
 -- how each end of a read is answered (after INCITS MMC)
 abbrev pub read_answer : ReadOut → Answer
@@ -100,6 +100,14 @@ abbrev pub capacities_told : (out : Bool) → Shown → List ℕ
 capacities_told out shown =
     format_capacities_reply out (is_some shown.lists) (capacity shown) (formattable shown.shape)
 
+-- the features that are asked for, by what the drive shows
+abbrev pub configuration_told : (kind first : ℕ) (out : Bool) → Shown → List ℕ
+configuration_told kind first out shown = configuration_reply kind first out (is_some shown.lists) (capacity shown)
+
+-- what kind of disc it is
+abbrev pub disc_told : Shown → List ℕ
+disc_told shown = disc_reply (is_some shown.lists)
+
 -- the spares of the lists in use: how many primary ones are free, how many supplementary ones, and how many of these there are
 abbrev pub spares_told : Shown → List ℕ
 spares_told shown = spares_reply (option_map_or (free_primary_count shown.shape) shown.lists 0)
@@ -128,7 +136,7 @@ module _ (old new : CacheShown) (before after : Contents → Type 0) where
     pub same : new ≡ old
     pub stands : (s : Contents) → before s → after s
 
-  -- a read of so many sectors was answered so, with these data
+  -- a read of n sectors was answered so, with these data
   pub record IsRead (lba n : ℕ) (answer : Answer) (data_in : List ℕ) : Type 0 where
     pub out : ReadOut
     pub bytes : List ℕ
@@ -153,7 +161,7 @@ module _ (old new : CacheShown) (before after : Contents → Type 0) where
     pub answer_is : answer ≡ format_answer out
     pub no_data : data_in ≡ []
 
-  -- an expansion that leaves so many sectors was answered so
+  -- an expansion that leaves n sectors was answered so
   pub record IsExpanded (sectors : ℕ) (answer : Answer) (data_in : List ℕ) : Type 0 where
     pub out : ExpandOut
     pub cause : CacheExpandCause old new sectors out
@@ -161,7 +169,7 @@ module _ (old new : CacheShown) (before after : Contents → Type 0) where
     pub answer_is : answer ≡ expand_answer out
     pub no_data : data_in ≡ []
 
-  -- a verification of so many sectors was answered so
+  -- a verification of n sectors was answered so
   pub record IsVerified (lba n : ℕ) (answer : Answer) (data_in : List ℕ) : Type 0 where
     pub out : ReadOut
     pub cause : CacheVerifyCause old new lba n out
@@ -207,8 +215,8 @@ module _ (old new : CacheShown) (before after : Contents → Type 0) where
       IsAnswered answer answers.Good data_in (take alloc (sense_reply host))
   IsDone host payload (commands.Format kind) answer data_in = IsFormatted kind answer data_in
   IsDone host payload (commands.Expand sectors) answer data_in = IsExpanded sectors answer data_in
-  IsDone host payload (commands.Inquiry alloc) answer data_in =
-      IsAnswered answer answers.Good data_in (take alloc inquiry_reply)
+  IsDone host payload (commands.Inquiry vital alloc) answer data_in =
+      IsAnswered answer answers.Good data_in (take alloc (inquiry_by vital))
   IsDone host payload (commands.StartStop start eject) answer data_in = IsAnswered answer answers.Good data_in []
   IsDone host payload (commands.Prevent on) answer data_in = IsAnswered answer answers.Good data_in []
   IsDone host payload (commands.FormatCapacities alloc) answer data_in =
@@ -220,12 +228,17 @@ module _ (old new : CacheShown) (before after : Contents → Type 0) where
   IsDone host payload (commands.Verify lba n) answer data_in = IsVerified lba n answer data_in
   IsDone host payload commands.Synchronize answer data_in = IsSynchronised answer data_in
   IsDone host payload (commands.Configuration rt start alloc) answer data_in =
-      IsAnswered answer answers.Good data_in (take alloc (configuration_reply host.out start))
+      IsAnswered answer answers.Good data_in (take alloc (configuration_told rt start host.out old.drive))
+  IsDone host payload (commands.Events media alloc) answer data_in =
+      IsAnswered answer answers.Good data_in (take alloc (events_reply media host.out))
+  IsDone host payload (commands.DiscInformation alloc) answer data_in =
+      IsAnswered answer answers.Good data_in (take alloc (disc_told old.drive))
   IsDone host payload commands.ModeSelect answer data_in = IsSelected payload answer data_in
-  IsDone host payload (commands.ModeSense control page alloc) answer data_in =
-      IsAnswered answer answers.Good data_in (take alloc (mode_data control old.caches page))
+  IsDone host payload (commands.ModeSense short control page alloc) answer data_in =
+      IsAnswered answer answers.Good data_in (take alloc (mode_data short control old.caches host.prevented page))
   IsDone host payload (commands.Structure format alloc) answer data_in =
       MatchBool (format == 0x08) (TellsStructure alloc answer data_in) (TellsSpares alloc answer data_in)
+  IsDone host payload commands.Streaming answer data_in = IsAnswered answer answers.Good data_in []
 
   -- how a command is answered that was judged so
   abbrev pub IsAnsweredBy : Host → (payload : List ℕ) → Result Command Sense → Answer → List ℕ → Type 0

@@ -56,6 +56,8 @@ within_limits operations.RequestSense cdb payload small long taken saved given =
 within_limits operations.FormatUnit cdb payload small long taken saved given =
     format_fits payload (format_type payload == 1) (field 4 4 payload) (format_kind cdb payload)
 within_limits operations.Inquiry cdb payload small long taken saved given = search rules
+within_limits operations.ModeSense6 cdb payload small long taken saved given =
+    (below_three (bits 2 6 2 cdb) saved (omega arith), rw (not-false (is_page_code (bits 2 0 6 cdb)) taken) (search rules))
 within_limits operations.StartStopUnit cdb payload small long taken saved given = search rules
 within_limits operations.PreventAllowMediumRemoval cdb payload small long taken saved given = search rules
 within_limits operations.ReadFormatCapacities cdb payload small long taken saved given = search rules
@@ -69,6 +71,8 @@ within_limits operations.Verify10 cdb payload small long taken saved given = two
 within_limits operations.SynchronizeCache cdb payload small long taken saved given = search rules
 within_limits operations.GetConfiguration cdb payload small long taken saved given =
     below_three (bits 1 0 2 cdb) taken (omega arith)
+within_limits operations.GetEventStatusNotification cdb payload small long taken saved given = search rules
+within_limits operations.ReadDiscInformation cdb payload small long taken saved given = search rules
 within_limits operations.ModeSelect10 cdb payload small long taken saved given = search rules
 within_limits operations.ModeSense10 cdb payload small long taken saved given =
     (below_three (bits 2 6 2 cdb) saved (omega arith), rw (not-false (is_page_code (bits 2 0 6 cdb)) taken) (search rules))
@@ -76,3 +80,4 @@ within_limits operations.Read12 cdb payload small long taken saved given = ltb-f
 within_limits operations.Write12 cdb payload small long taken saved given =
     written (length payload) (length cdb) 12 (field 6 4 cdb) long taken given
 within_limits operations.ReadDvdStructure cdb payload small long taken saved given = search rules
+within_limits operations.SetStreaming cdb payload small long taken saved given = search rules

@@ -32,19 +32,22 @@ use ram_sense::codes::{
 /// - `Ok`: no reason applies. Then: what the command block asks for, within the limits of a command. (`decoded`,
 ///   `IsWithinLimits`)
 /// - `Err`: 5/20/00 for a code that is not in the table, else the first reason of `decode_as`. Then: the sense. (`decoded_by`)
-/// - `TestUnitReady`, `ReadCapacity`, `Synchronize`, `ModeSelect`: the command of that name, which has no field that is looked
-///   at. (`meaning`)
-/// - `RequestSense`, `Inquiry`, `FormatCapacities`: the command of that name, with its allocation length. (`meaning`)
+/// - `TestUnitReady`, `ReadCapacity`, `Synchronize`, `ModeSelect`, `Streaming`: the command of that name, which has no field that
+///   is looked at. (`meaning`)
+/// - `RequestSense`, `FormatCapacities`, `DiscInformation`: the command of that name, with its allocation length. (`meaning`)
+/// - `Inquiry`: INQUIRY, of vital product data or not. (`meaning`)
+/// - `Events`: GET EVENT STATUS NOTIFICATION, and whether events of the medium are asked for. (`meaning`)
 /// - `Format`: FORMAT UNIT of format type 0: a rewriting one where FOV and DCRT are set, else a full one. (`meaning`,
 ///   `format_kind`)
 /// - `Expand`: FORMAT UNIT of format type 1, with the number of sectors that the disc is to have. (`meaning`)
-/// - `StartStop`, `Prevent`: the command of that name, with its bits. (`meaning`)
+/// - `StartStop`: START STOP UNIT, with its bits; with a power condition nothing is to be loaded or ejected. (`meaning`)
+/// - `Prevent`: PREVENT ALLOW MEDIUM REMOVAL, with its bit. (`meaning`)
 /// - `Read`: READ(10) or READ(12). Then: at most 1,024 sectors. (`meaning`, `IsWithinLimits`)
 /// - `Write`: WRITE(10), WRITE(12), or WRITE AND VERIFY(10), which is one with FUA. Then: at most 1,024 sectors, and the data of
 ///   exactly that many. (`meaning`, `IsWithinLimits`)
 /// - `Verify`: VERIFY(10). Then: at most 65,535 sectors. (`meaning`, `IsWithinLimits`)
 /// - `Configuration`: GET CONFIGURATION. Then: its request type is 0 to 2. (`meaning`, `IsWithinLimits`)
-/// - `ModeSense`: MODE SENSE(10). Then: its page control is 0 to 2, its page code one of the drive's or that of all. (`meaning`,
+/// - `ModeSense`: MODE SENSE(6), whose header is the shorter one, or MODE SENSE(10). Then: its page control is 0 to 2, its page code one of the drive's or that of all. (`meaning`,
 ///   `IsWithinLimits`)
 /// - `Structure`: READ DVD STRUCTURE, with its format. (`meaning`)
 pub fn decode(cdb: &Cdb, payload: &[u8]) -> Result<Command, Sense>
@@ -102,14 +105,16 @@ fn has_refused_field(operation: Operation, cdb: &[u8]) -> bool
         Operation::FormatUnit => {
             !flag(cdb, 1, 4) || bits(cdb, 1, 0, 3) != 1 || bits(cdb, 1, 5, 3) != 0
         }
-        Operation::Inquiry => flag(cdb, 1, 0),
+        Operation::Inquiry => cdb[2] != 0,
         Operation::Read10 | Operation::Write10 | Operation::WriteAndVerify10 => {
             u32::from(get_u16(cdb, 7)) > TRANSFER_LIMIT
         }
         Operation::Verify10 => flag(cdb, 1, 1),
         Operation::GetConfiguration => bits(cdb, 1, 0, 2) == 3,
+        Operation::GetEventStatusNotification => !flag(cdb, 1, 0),
+        Operation::ReadDiscInformation => bits(cdb, 1, 0, 3) != 0,
         Operation::ModeSelect10 => !flag(cdb, 1, 4) || flag(cdb, 1, 0),
-        Operation::ModeSense10 => !is_page_code(bits(cdb, 2, 0, 6)),
+        Operation::ModeSense6 | Operation::ModeSense10 => !is_page_code(bits(cdb, 2, 0, 6)),
         Operation::Read12 | Operation::Write12 => get_u32(cdb, 6) > TRANSFER_LIMIT,
         Operation::ReadDvdStructure => cdb[7] != 0x08 && cdb[7] != 0x0a,
         Operation::TestUnitReady
@@ -118,7 +123,8 @@ fn has_refused_field(operation: Operation, cdb: &[u8]) -> bool
         | Operation::PreventAllowMediumRemoval
         | Operation::ReadFormatCapacities
         | Operation::ReadCapacity10
-        | Operation::SynchronizeCache => false,
+        | Operation::SynchronizeCache
+        | Operation::SetStreaming => false,
     }
 }
 
@@ -127,10 +133,10 @@ fn asks_for_saved_values(operation: Operation, cdb: &[u8]) -> bool
     requires { (command operation).bytes ≤ length cdb.now }
     ensures { result ≡ asks_for_saved_values operation cdb.now }
 {
-    matches!(operation, Operation::ModeSense10) && bits(cdb, 2, 6, 2) == 3
+    matches!(operation, Operation::ModeSense6 | Operation::ModeSense10) && bits(cdb, 2, 6, 2) == 3
 }
 
-// Whether so many bytes of data are not what the command takes.
+// Whether n bytes of data are not what the command takes.
 fn has_wrong_length(operation: Operation, cdb: &[u8], given: usize) -> bool
     requires { (command operation).bytes ≤ length cdb.now }
     ensures exact { result ≡ has_wrong_length operation cdb.now given }
@@ -168,11 +174,13 @@ fn meaning(operation: Operation, cdb: &[u8], payload: &[u8]) -> Command
         },
         Operation::FormatUnit => format(cdb, payload),
         Operation::Inquiry => Command::Inquiry {
+            vital: flag(cdb, 1, 0),
             alloc: u32::from(get_u16(cdb, 3)),
         },
+        Operation::ModeSense6 => mode_sense(true, cdb, u32::from(cdb[4])),
         Operation::StartStopUnit => Command::StartStop {
             start: flag(cdb, 4, 0),
-            eject: flag(cdb, 4, 1),
+            eject: flag(cdb, 4, 1) && bits(cdb, 4, 4, 4) == 0,
         },
         Operation::PreventAllowMediumRemoval => Command::Prevent {
             on: flag(cdb, 4, 0),
@@ -187,14 +195,22 @@ fn meaning(operation: Operation, cdb: &[u8], payload: &[u8]) -> Command
         Operation::Verify10 => verify(cdb),
         Operation::SynchronizeCache => Command::Synchronize,
         Operation::GetConfiguration => configuration(cdb),
+        Operation::GetEventStatusNotification => Command::Events {
+            media: flag(cdb, 4, 4),
+            alloc: u32::from(get_u16(cdb, 7)),
+        },
+        Operation::ReadDiscInformation => Command::DiscInformation {
+            alloc: u32::from(get_u16(cdb, 7)),
+        },
         Operation::ModeSelect10 => Command::ModeSelect,
-        Operation::ModeSense10 => mode_sense(cdb),
+        Operation::ModeSense10 => mode_sense(false, cdb, u32::from(get_u16(cdb, 7))),
         Operation::Read12 => read(cdb, get_u32(cdb, 6)),
         Operation::Write12 => write(cdb, get_u32(cdb, 6), flag(cdb, 1, 3)),
         Operation::ReadDvdStructure => Command::Structure {
             format: cdb[7],
             alloc: u32::from(get_u16(cdb, 8)),
         },
+        Operation::SetStreaming => Command::Streaming,
     }
 }
 
@@ -256,14 +272,15 @@ fn configuration(cdb: &[u8]) -> Command
     }
 }
 
-fn mode_sense(cdb: &[u8]) -> Command
-    requires { 10 ≤ length cdb.now }
-    ensures { result ≡ commands.ModeSense (bits 2 6 2 cdb.now) (bits 2 0 6 cdb.now) (field 7 2 cdb.now) }
+fn mode_sense(short: bool, cdb: &[u8], alloc: u32) -> Command
+    requires { 6 ≤ length cdb.now }
+    ensures { result ≡ commands.ModeSense short (bits 2 6 2 cdb.now) (bits 2 0 6 cdb.now) alloc }
 {
     Command::ModeSense {
+        short,
         control: bits(cdb, 2, 6, 2),
         page: bits(cdb, 2, 0, 6),
-        alloc: u32::from(get_u16(cdb, 7)),
+        alloc,
     }
 }
 
@@ -276,7 +293,7 @@ fn flag(bytes: &[u8], at: usize, place: u32) -> bool
     bytes[at] >> place & 1 == 1
 }
 
-// The number in so many of the bits of this byte, from this place on.
+// The number in n of the bits of this byte, from this place on.
 fn bits(bytes: &[u8], at: usize, place: u32, width: u32) -> u8
     requires inside { at < length bytes.now }
     requires place { place < 8 }

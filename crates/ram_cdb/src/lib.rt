@@ -25,7 +25,7 @@
 
 ghost use Rattle.std.specs.Prelude.{◌≡◌, ◌↔◌, ◌*◌, ◌≤◌, length, IsTrue, IsSome, nat_le, if◌then◌else◌};
 ghost use Rattle.model_commands.specs.declared.TheConstants.{DATA_LIMIT, TRANSFER_LIMIT};
-ghost use Rattle.ram_cdb.specs.declared.TheConstants.{FORMAT_LIST_BYTES};
+ghost use Rattle.ram_cdb.specs.declared.TheConstants.{FORMAT_LIST_BYTES, STREAMING_LIST_BYTES};
 ghost use Rattle.model_commands.specs.Commands.{command, operation_with, operation_of, out_length_of, data_length};
 
 pub mod decoding;
@@ -40,13 +40,18 @@ use ram_bytes::{Cdb, SECTOR_BYTES, get_u16, get_u32};
 /// How many bytes the parameter list of FORMAT UNIT has.
 pub const FORMAT_LIST_BYTES: usize = 12;
 
-/// The number that contracts share with the code.
+/// How many bytes the parameter data of SET STREAMING have.
+pub const STREAMING_LIST_BYTES: usize = 28;
+
+/// The numbers that contracts share with the code.
 ///
 /// # Clauses
 ///
-/// - the parameter list of FORMAT UNIT has 12 bytes. The law of the same name in `model_commands` has the other two numbers.
+/// - the parameter list of FORMAT UNIT has 12 bytes, and that of SET STREAMING 28. The law of the same name in `model_commands` has
+///   the other two numbers.
 pub fn limits_are_these()
     ensures format { FORMAT_LIST_BYTES ≡ 12 }
+    ensures streaming { STREAMING_LIST_BYTES ≡ 28 }
 {}
 
 /// Whether the drive knows the command, by its operation code alone.
@@ -98,7 +103,8 @@ pub fn out_length(cdb: &Cdb) -> usize
 ///   the command. (`operation_with`)
 /// - `ReadFormatCapacities`, `ReadCapacity10`, `Read10`, `Write10`, `WriteAndVerify10`, `Verify10`, `Read12`, `Write12`:
 ///   likewise. (`operation_with`)
-/// - `SynchronizeCache`, `GetConfiguration`, `ModeSelect10`, `ModeSense10`, `ReadDvdStructure`: likewise. (`operation_with`)
+/// - `SynchronizeCache`, `GetConfiguration`, `GetEventStatusNotification`, `ReadDiscInformation`, `ModeSelect10`, `ModeSense6`,
+///   `ModeSense10`, `ReadDvdStructure`, `SetStreaming`: likewise. (`operation_with`)
 pub fn operation(code: u8) -> Option<Operation>
     ensures { result ≡ operation_with code }
 {
@@ -107,6 +113,7 @@ pub fn operation(code: u8) -> Option<Operation>
         0x03 => Some(Operation::RequestSense),
         0x04 => Some(Operation::FormatUnit),
         0x12 => Some(Operation::Inquiry),
+        0x1a => Some(Operation::ModeSense6),
         0x1b => Some(Operation::StartStopUnit),
         0x1e => Some(Operation::PreventAllowMediumRemoval),
         0x23 => Some(Operation::ReadFormatCapacities),
@@ -117,11 +124,14 @@ pub fn operation(code: u8) -> Option<Operation>
         0x2f => Some(Operation::Verify10),
         0x35 => Some(Operation::SynchronizeCache),
         0x46 => Some(Operation::GetConfiguration),
+        0x4a => Some(Operation::GetEventStatusNotification),
+        0x51 => Some(Operation::ReadDiscInformation),
         0x55 => Some(Operation::ModeSelect10),
         0x5a => Some(Operation::ModeSense10),
         0xa8 => Some(Operation::Read12),
         0xaa => Some(Operation::Write12),
         0xad => Some(Operation::ReadDvdStructure),
+        0xb6 => Some(Operation::SetStreaming),
         _ => None,
     }
 }
@@ -139,6 +149,7 @@ pub fn command_bytes(operation: Operation) -> usize
         | Operation::RequestSense
         | Operation::FormatUnit
         | Operation::Inquiry
+        | Operation::ModeSense6
         | Operation::StartStopUnit
         | Operation::PreventAllowMediumRemoval => 6,
         Operation::ReadFormatCapacities
@@ -149,9 +160,14 @@ pub fn command_bytes(operation: Operation) -> usize
         | Operation::Verify10
         | Operation::SynchronizeCache
         | Operation::GetConfiguration
+        | Operation::GetEventStatusNotification
+        | Operation::ReadDiscInformation
         | Operation::ModeSelect10
         | Operation::ModeSense10 => 10,
-        Operation::Read12 | Operation::Write12 | Operation::ReadDvdStructure => 12,
+        Operation::Read12
+        | Operation::Write12
+        | Operation::ReadDvdStructure
+        | Operation::SetStreaming => 12,
     }
 }
 
@@ -174,9 +190,11 @@ pub fn data_bytes(operation: Operation, cdb: &[u8]) -> usize
         }
         Operation::Write12 => sectors_bytes(get_u32(cdb, 6)),
         Operation::ModeSelect10 => get_u16(cdb, 7) as usize,
+        Operation::SetStreaming => STREAMING_LIST_BYTES,
         Operation::TestUnitReady
         | Operation::RequestSense
         | Operation::Inquiry
+        | Operation::ModeSense6
         | Operation::StartStopUnit
         | Operation::PreventAllowMediumRemoval
         | Operation::ReadFormatCapacities
@@ -185,13 +203,15 @@ pub fn data_bytes(operation: Operation, cdb: &[u8]) -> usize
         | Operation::Verify10
         | Operation::SynchronizeCache
         | Operation::GetConfiguration
+        | Operation::GetEventStatusNotification
+        | Operation::ReadDiscInformation
         | Operation::ModeSense10
         | Operation::Read12
         | Operation::ReadDvdStructure => 0,
     }
 }
 
-// How many bytes so many sectors have; 0 where they are more than a command writes.
+// How many bytes n sectors have; 0 where they are more than a command writes.
 fn sectors_bytes(count: u32) -> usize
     ensures exact { result ≡ (if nat_le count TRANSFER_LIMIT then count * 2048 else 0) }
     ensures bound { result ≤ DATA_LIMIT }

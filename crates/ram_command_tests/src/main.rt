@@ -11,7 +11,7 @@ mod words;
 
 use crate::blocks::{answer_block, answer_cdb, answer_numbers};
 use crate::decoding::{answer_data, answer_decode, answer_lengths, answer_zeros};
-use crate::modes::{answer_select, answer_sense};
+use crate::modes::{answer_select, answer_sense, answer_sense_6};
 use std::alloc::{AllocError, Global};
 use std::io;
 
@@ -53,6 +53,7 @@ fn answer_row(alloc: Global, row: &str, answer: &mut String) -> Result<(), Alloc
         "zeros" => answer_zeros(alloc, words, answer),
         "lengths" => answer_lengths(alloc, words, answer),
         "sense" => answer_sense(alloc, words, answer),
+        "sense6" => answer_sense_6(alloc, words, answer),
         "select" => answer_select(alloc, words, answer),
         word => answer_bytes_row(alloc, word, words, answer),
     }

@@ -111,7 +111,7 @@ module _ (S : List ℕ → Type 0) (at : ℕ) where
     done_keeps host payload (commands.RequestSense alloc) answer data_in p leaves given = untouched_keeps p.untouched
     done_keeps host payload (commands.Format kind) answer data_in p leaves given = absurd leaves
     done_keeps host payload (commands.Expand sectors) answer data_in p leaves given = expand_falls (SoInBlock S at) (block_with at) s t sectors p.out (p.step s refl) so
-    done_keeps host payload (commands.Inquiry alloc) answer data_in p leaves given = untouched_keeps p.untouched
+    done_keeps host payload (commands.Inquiry vital alloc) answer data_in p leaves given = untouched_keeps p.untouched
     done_keeps host payload (commands.StartStop start eject) answer data_in p leaves given = untouched_keeps p.untouched
     done_keeps host payload (commands.Prevent on) answer data_in p leaves given = untouched_keeps p.untouched
     done_keeps host payload (commands.FormatCapacities alloc) answer data_in p leaves given = untouched_keeps p.untouched
@@ -121,9 +121,12 @@ module _ (S : List ℕ → Type 0) (at : ℕ) where
     done_keeps host payload (commands.Verify lba n) answer data_in p leaves given = verify_falls (SoInBlock S at) (block_with at) s t p.out (p.step s refl) so
     done_keeps host payload commands.Synchronize answer data_in p leaves given = sync_falls (SoInBlock S at) (block_with at) s t p.out (p.step s refl) so
     done_keeps host payload (commands.Configuration rt start alloc) answer data_in p leaves given = untouched_keeps p.untouched
+    done_keeps host payload (commands.Events media alloc) answer data_in p leaves given = untouched_keeps p.untouched
+    done_keeps host payload (commands.DiscInformation alloc) answer data_in p leaves given = untouched_keeps p.untouched
     done_keeps host payload commands.ModeSelect answer data_in p leaves given = subst (SoInContents S at) (p.stands s refl) so
-    done_keeps host payload (commands.ModeSense control page alloc) answer data_in p leaves given = untouched_keeps p.untouched
+    done_keeps host payload (commands.ModeSense short control page alloc) answer data_in p leaves given = untouched_keeps p.untouched
     done_keeps host payload (commands.Structure format alloc) answer data_in p leaves given = told_keeps (format == 0x08) alloc answer data_in p
+    done_keeps host payload commands.Streaming answer data_in p leaves given = untouched_keeps p.untouched
 
     by_keeps : (host : Host) (formatted : Bool) (cdb payload : List ℕ) (judged : Result Command Sense) (answer : Answer) (data_in : List ℕ) → IsJudged host formatted cdb payload judged
         → IsAnsweredBy old new (λ x. x ≡ s) (λ x. x ≡ t) host payload judged answer data_in → LeavesAsDecoded at (decoded cdb payload) → SoInContents S at t

@@ -46,8 +46,8 @@ use Rattle.model_cdb.specs.declared.commands.Command.TheVariants as commands
 use Rattle.model_cdb.specs.Decoding.{refusal, unless, decoded}
 use Rattle.model_target.specs.declared.host.Host.{Host}
 use Rattle.model_target.specs.Judging.{asked, IsAllowed, IsJudgedBy, IsJudged}
-use Rattle.model_target.specs.Replies.{sense_reply, inquiry_reply, capacity_reply, configuration_reply, structure_reply}
-use Rattle.model_target.specs.Steps.{write_answer, sync_answer, capacities_told, spares_told, WrittenCause, WrittenContents, IsRead, IsFormatted, IsExpanded, IsVerified, IsSynchronised, IsSelected, IsAnswered, TellsStructure, TellsSpares, IsDone, IsAnsweredBy, IsStep as ExecutesTo}
+use Rattle.model_target.specs.Replies.{sense_reply, inquiry_by, capacity_reply, events_reply, structure_reply}
+use Rattle.model_target.specs.Steps.{write_answer, sync_answer, configuration_told, disc_told, capacities_told, spares_told, WrittenCause, WrittenContents, IsRead, IsFormatted, IsExpanded, IsVerified, IsSynchronised, IsSelected, IsAnswered, TellsStructure, TellsSpares, IsDone, IsAnsweredBy, IsStep as ExecutesTo}
 use Rattle.ram_mmc.proofs.Judged.{allowed_holds}
 use Rattle.ram_medium.specs.declared.control.FailEnd.{FailEnd}
 use Rattle.ram_medium.specs.declared.control.FailEnd.TheVariants as fails
@@ -260,7 +260,7 @@ module _ (drive : Shown) (new : CacheShown) (s : Standing) (t : Contents) where
   done_plainly on host payload (commands.RequestSense alloc) answer data_in formatted off p = answered answer answers.Good data_in (take alloc (sense_reply host)) p
   done_plainly on host payload (commands.Format kind) answer data_in formatted off p = format_plainly kind answer data_in p
   done_plainly on host payload (commands.Expand sectors) answer data_in formatted off p = expand_plainly sectors answer data_in p
-  done_plainly on host payload (commands.Inquiry alloc) answer data_in formatted off p = answered answer answers.Good data_in (take alloc inquiry_reply) p
+  done_plainly on host payload (commands.Inquiry vital alloc) answer data_in formatted off p = answered answer answers.Good data_in (take alloc (inquiry_by vital)) p
   done_plainly on host payload (commands.StartStop start eject) answer data_in formatted off p = answered answer answers.Good data_in [] p
   done_plainly on host payload (commands.Prevent locks) answer data_in formatted off p = answered answer answers.Good data_in [] p
   done_plainly on host payload (commands.FormatCapacities alloc) answer data_in formatted off p = answered answer answers.Good data_in (take alloc (capacities_told host.out drive)) p
@@ -269,10 +269,13 @@ module _ (drive : Shown) (new : CacheShown) (s : Standing) (t : Contents) where
   done_plainly on host payload (commands.Write lba n fua) answer data_in formatted off p = write_plainly lba n payload fua p.out answer data_in p.answer_is p.no_data p.cause (p.step (plain s) refl)
   done_plainly on host payload (commands.Verify lba n) answer data_in formatted off p = verify_plainly lba n answer data_in p
   done_plainly on host payload commands.Synchronize answer data_in formatted off p = synchronised on (formatted refl) answer data_in p
-  done_plainly on host payload (commands.Configuration rt start alloc) answer data_in formatted off p = answered answer answers.Good data_in (take alloc (configuration_reply host.out start)) p
+  done_plainly on host payload (commands.Configuration rt start alloc) answer data_in formatted off p = answered answer answers.Good data_in (take alloc (configuration_told rt start host.out drive)) p
+  done_plainly on host payload (commands.Events media alloc) answer data_in formatted off p = answered answer answers.Good data_in (take alloc (events_reply media host.out)) p
+  done_plainly on host payload (commands.DiscInformation alloc) answer data_in formatted off p = answered answer answers.Good data_in (take alloc (disc_told drive)) p
   done_plainly on host payload commands.ModeSelect answer data_in formatted off p = select_plainly payload answer data_in off p
-  done_plainly on host payload (commands.ModeSense control page alloc) answer data_in formatted off p = answered answer answers.Good data_in (take alloc (mode_data control false page)) p
+  done_plainly on host payload (commands.ModeSense short control page alloc) answer data_in formatted off p = answered answer answers.Good data_in (take alloc (mode_data short control false host.prevented page)) p
   done_plainly on host payload (commands.Structure format alloc) answer data_in formatted off p = told_plainly (format == 0x08) alloc answer data_in p
+  done_plainly on host payload commands.Streaming answer data_in formatted off p = answered answer answers.Good data_in [] p
 
   by_plainly : IsOn drive → (host : Host) (cdb payload : List ℕ) (judged : Result Command Sense) (answer : Answer) (data_in : List ℕ) → IsJudged host (is_some drive.lists) cdb payload judged
       → LeavesAloneAsDecoded (decoded cdb payload) payload → IsAnsweredBy (uncached drive) new (λ x. x ≡ plain s) (λ x. x ≡ t) host payload judged answer data_in

@@ -126,7 +126,7 @@ module _ (old new : CacheShown) (same : new.drive.shape ≡ old.drive.shape) (so
   done_fair host payload (commands.RequestSense alloc) answer data_in p = untouched_fair p.untouched
   done_fair host payload (commands.Format kind) answer data_in p = format_fair old.drive new.drive same sound is_known was_known fair kind p.out p.cause.0
   done_fair host payload (commands.Expand sectors) answer data_in p = expand_fair old.drive new.drive same sound is_known was_known fair sectors p.out p.cause.0
-  done_fair host payload (commands.Inquiry alloc) answer data_in p = untouched_fair p.untouched
+  done_fair host payload (commands.Inquiry vital alloc) answer data_in p = untouched_fair p.untouched
   done_fair host payload (commands.StartStop start eject) answer data_in p = untouched_fair p.untouched
   done_fair host payload (commands.Prevent on) answer data_in p = untouched_fair p.untouched
   done_fair host payload (commands.FormatCapacities alloc) answer data_in p = untouched_fair p.untouched
@@ -136,9 +136,12 @@ module _ (old new : CacheShown) (same : new.drive.shape ≡ old.drive.shape) (so
   done_fair host payload (commands.Verify lba n) answer data_in p = verify_fair old.drive new.drive same sound is_known lba n p.out fair p.cause.0
   done_fair host payload commands.Synchronize answer data_in p = (of_sync StaysFair stays_fair old new p.out p.cause (was_known, fair)).1
   done_fair host payload (commands.Configuration rt start alloc) answer data_in p = untouched_fair p.untouched
+  done_fair host payload (commands.Events media alloc) answer data_in p = untouched_fair p.untouched
+  done_fair host payload (commands.DiscInformation alloc) answer data_in p = untouched_fair p.untouched
   done_fair host payload commands.ModeSelect answer data_in p = subst (λ (s : CacheShown). GivesUpDeadAlone s.drive) (sym p.mode) fair
-  done_fair host payload (commands.ModeSense control page alloc) answer data_in p = untouched_fair p.untouched
+  done_fair host payload (commands.ModeSense short control page alloc) answer data_in p = untouched_fair p.untouched
   done_fair host payload (commands.Structure format alloc) answer data_in p = told_fair (format == 0x08) alloc answer data_in p
+  done_fair host payload commands.Streaming answer data_in p = untouched_fair p.untouched
 
   judged_fair : (host : Host) (payload : List ℕ) (judged : Result Command Sense) (answer : Answer) (data_in : List ℕ) → IsAnsweredBy old new before after host payload judged answer data_in → GivesUpDeadAlone new.drive
   judged_fair host payload (Err why) answer data_in p = untouched_fair p.untouched

@@ -103,7 +103,7 @@ module _ (s t : State) (cdb payload data_in : List ℕ) (outcome : Outcome) (at 
   decoded_back (Ok (commands.RequestSense alloc)) asks writes = leave_back (Ok (commands.RequestSense alloc)) asks tt
   decoded_back (Ok (commands.Format kind)) asks writes = absurd writes
   decoded_back (Ok (commands.Expand sectors)) asks writes = leave_back (Ok (commands.Expand sectors)) asks tt
-  decoded_back (Ok (commands.Inquiry alloc)) asks writes = leave_back (Ok (commands.Inquiry alloc)) asks tt
+  decoded_back (Ok (commands.Inquiry vital alloc)) asks writes = leave_back (Ok (commands.Inquiry vital alloc)) asks tt
   decoded_back (Ok (commands.StartStop start eject)) asks writes = leave_back (Ok (commands.StartStop start eject)) asks tt
   decoded_back (Ok (commands.Prevent on)) asks writes = leave_back (Ok (commands.Prevent on)) asks tt
   decoded_back (Ok (commands.FormatCapacities alloc)) asks writes = leave_back (Ok (commands.FormatCapacities alloc)) asks tt
@@ -113,9 +113,12 @@ module _ (s t : State) (cdb payload data_in : List ℕ) (outcome : Outcome) (at 
   decoded_back (Ok (commands.Verify lba n)) asks writes = leave_back (Ok (commands.Verify lba n)) asks tt
   decoded_back (Ok commands.Synchronize) asks writes = leave_back (Ok commands.Synchronize) asks tt
   decoded_back (Ok (commands.Configuration rt start alloc)) asks writes = leave_back (Ok (commands.Configuration rt start alloc)) asks tt
+  decoded_back (Ok (commands.Events media alloc)) asks writes = leave_back (Ok (commands.Events media alloc)) asks tt
+  decoded_back (Ok (commands.DiscInformation alloc)) asks writes = leave_back (Ok (commands.DiscInformation alloc)) asks tt
   decoded_back (Ok commands.ModeSelect) asks writes = leave_back (Ok commands.ModeSelect) asks tt
-  decoded_back (Ok (commands.ModeSense control page alloc)) asks writes = leave_back (Ok (commands.ModeSense control page alloc)) asks tt
+  decoded_back (Ok (commands.ModeSense short control page alloc)) asks writes = leave_back (Ok (commands.ModeSense short control page alloc)) asks tt
   decoded_back (Ok (commands.Structure format alloc)) asks writes = leave_back (Ok (commands.Structure format alloc)) asks tt
+  decoded_back (Ok commands.Streaming) asks writes = leave_back (Ok commands.Streaming) asks tt
 
 pub step_back : (s t : State) (line : Line) (payload data_in : List ℕ) (outcome : Outcome) (at : ℕ) (choices : List (List ℕ)) → Step s line payload outcome data_in t → NeitherPressesNorFormats line payload
     → FallsBackTo s at choices → FallsBackTo t at (choices_with at line payload choices)

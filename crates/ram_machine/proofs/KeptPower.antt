@@ -201,7 +201,7 @@ module _ (at : ℕ) (bytes : List ℕ) where
     done_shows host payload (commands.RequestSense alloc) answer data_in p power leaves given = untouched_shows p.untouched
     done_shows host payload (commands.Format kind) answer data_in p power leaves given = absurd leaves
     done_shows host payload (commands.Expand sectors) answer data_in p power leaves given = expand_shows t s sectors p.out (p.step s refl) (subst PowerStays p.answer_is power) keeps
-    done_shows host payload (commands.Inquiry alloc) answer data_in p power leaves given = untouched_shows p.untouched
+    done_shows host payload (commands.Inquiry vital alloc) answer data_in p power leaves given = untouched_shows p.untouched
     done_shows host payload (commands.StartStop start eject) answer data_in p power leaves given = untouched_shows p.untouched
     done_shows host payload (commands.Prevent on) answer data_in p power leaves given = untouched_shows p.untouched
     done_shows host payload (commands.FormatCapacities alloc) answer data_in p power leaves given = untouched_shows p.untouched
@@ -211,9 +211,12 @@ module _ (at : ℕ) (bytes : List ℕ) where
     done_shows host payload (commands.Verify lba n) answer data_in p power leaves given = verify_shows t s p.out (p.step s refl) (subst PowerStays p.answer_is power) keeps
     done_shows host payload commands.Synchronize answer data_in p power leaves given = sync_shows t s p.out (p.step s refl) (subst PowerStays p.answer_is power) keeps
     done_shows host payload (commands.Configuration rt start alloc) answer data_in p power leaves given = untouched_shows p.untouched
+    done_shows host payload (commands.Events media alloc) answer data_in p power leaves given = untouched_shows p.untouched
+    done_shows host payload (commands.DiscInformation alloc) answer data_in p power leaves given = untouched_shows p.untouched
     done_shows host payload commands.ModeSelect answer data_in p power leaves given = subst KeepsShown (p.stands s refl) keeps
-    done_shows host payload (commands.ModeSense control page alloc) answer data_in p power leaves given = untouched_shows p.untouched
+    done_shows host payload (commands.ModeSense short control page alloc) answer data_in p power leaves given = untouched_shows p.untouched
     done_shows host payload (commands.Structure format alloc) answer data_in p power leaves given = told_shows (format == 0x08) alloc answer data_in p
+    done_shows host payload commands.Streaming answer data_in p power leaves given = untouched_shows p.untouched
 
     by_shows : (host : Host) (formatted : Bool) (cdb payload : List ℕ) (judged : Result Command Sense) (answer : Answer) (data_in : List ℕ) → IsJudged host formatted cdb payload judged
         → IsAnsweredBy old new (λ x. x ≡ s) (λ x. x ≡ t) host payload judged answer data_in → PowerStays answer → LeavesAsDecoded at (decoded cdb payload) → KeepsShown t

@@ -72,7 +72,7 @@ module _ (old new : CacheShown) (before after : Contents → Type 0) where
   done_label host payload (commands.RequestSense alloc) answer data_in p = untouched_label p.untouched
   done_label host payload (commands.Format kind) answer data_in p = (format_kept old.drive new.drive kind p.out p.cause.0).same_label
   done_label host payload (commands.Expand sectors) answer data_in p = (expand_kept old.drive new.drive sectors p.out p.cause.0).same_label
-  done_label host payload (commands.Inquiry alloc) answer data_in p = untouched_label p.untouched
+  done_label host payload (commands.Inquiry vital alloc) answer data_in p = untouched_label p.untouched
   done_label host payload (commands.StartStop start eject) answer data_in p = untouched_label p.untouched
   done_label host payload (commands.Prevent on) answer data_in p = untouched_label p.untouched
   done_label host payload (commands.FormatCapacities alloc) answer data_in p = untouched_label p.untouched
@@ -82,9 +82,12 @@ module _ (old new : CacheShown) (before after : Contents → Type 0) where
   done_label host payload (commands.Verify lba n) answer data_in p = (verify_kept old.drive new.drive lba n p.out p.cause.0).same_label
   done_label host payload commands.Synchronize answer data_in p = of_sync (λ faulted a b. SameLabel a b) label_holds old new p.out p.cause
   done_label host payload (commands.Configuration rt start alloc) answer data_in p = untouched_label p.untouched
+  done_label host payload (commands.Events media alloc) answer data_in p = untouched_label p.untouched
+  done_label host payload (commands.DiscInformation alloc) answer data_in p = untouched_label p.untouched
   done_label host payload commands.ModeSelect answer data_in p = ap (λ (s : CacheShown). s.drive.medium.world.label) p.mode
-  done_label host payload (commands.ModeSense control page alloc) answer data_in p = untouched_label p.untouched
+  done_label host payload (commands.ModeSense short control page alloc) answer data_in p = untouched_label p.untouched
   done_label host payload (commands.Structure format alloc) answer data_in p = told_label (format == 0x08) alloc answer data_in p
+  done_label host payload commands.Streaming answer data_in p = untouched_label p.untouched
 
   by_label : (host : Host) (payload : List ℕ) (judged : Result Command Sense) (answer : Answer) (data_in : List ℕ) → IsAnsweredBy old new before after host payload judged answer data_in → SameLabel old.drive new.drive
   by_label host payload (Err why) answer data_in p = untouched_label p.untouched

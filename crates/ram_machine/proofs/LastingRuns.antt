@@ -102,7 +102,7 @@ module _ (old new : CacheShown) (before after : Contents → Type 0) where
   done_dead host payload (commands.RequestSense alloc) answer data_in p = cache_dead p.untouched.same
   done_dead host payload (commands.Format kind) answer data_in p = format_dead old.drive new.drive kind p.out p.cause.0
   done_dead host payload (commands.Expand sectors) answer data_in p = expand_dead old.drive new.drive sectors p.out p.cause.0
-  done_dead host payload (commands.Inquiry alloc) answer data_in p = cache_dead p.untouched.same
+  done_dead host payload (commands.Inquiry vital alloc) answer data_in p = cache_dead p.untouched.same
   done_dead host payload (commands.StartStop start eject) answer data_in p = cache_dead p.untouched.same
   done_dead host payload (commands.Prevent on) answer data_in p = cache_dead p.untouched.same
   done_dead host payload (commands.FormatCapacities alloc) answer data_in p = cache_dead p.untouched.same
@@ -112,9 +112,12 @@ module _ (old new : CacheShown) (before after : Contents → Type 0) where
   done_dead host payload (commands.Verify lba n) answer data_in p = verify_dead old.drive new.drive lba n p.out p.cause.0
   done_dead host payload commands.Synchronize answer data_in p = of_sync (λ faulted a b. DeadStay a b) stays_dead old new p.out p.cause
   done_dead host payload (commands.Configuration rt start alloc) answer data_in p = cache_dead p.untouched.same
+  done_dead host payload (commands.Events media alloc) answer data_in p = cache_dead p.untouched.same
+  done_dead host payload (commands.DiscInformation alloc) answer data_in p = cache_dead p.untouched.same
   done_dead host payload commands.ModeSelect answer data_in p = λ block dead. ap (λ (s : CacheShown). cell_at (cells_in s.drive) block) p.mode ∙ dead
-  done_dead host payload (commands.ModeSense control page alloc) answer data_in p = cache_dead p.untouched.same
+  done_dead host payload (commands.ModeSense short control page alloc) answer data_in p = cache_dead p.untouched.same
   done_dead host payload (commands.Structure format alloc) answer data_in p = told_dead (format == 0x08) alloc answer data_in p
+  done_dead host payload commands.Streaming answer data_in p = cache_dead p.untouched.same
 
   judged_dead : (host : Host) (payload : List ℕ) (judged : Result Command Sense) (answer : Answer) (data_in : List ℕ) → IsAnsweredBy old new before after host payload judged answer data_in → DeadStay old.drive new.drive
   judged_dead host payload (Err why) answer data_in p = cache_dead p.untouched.same
@@ -239,7 +242,7 @@ module _ (old new : CacheShown) (same : new.drive.shape ≡ old.drive.shape) (wa
   done_lasts host payload (commands.Format (kinds.Full drop_sdl)) answer data_in keeps p = absurd keeps
   done_lasts host payload (commands.Format kinds.Rewrite) answer data_in keeps p = as_sized (format_stays old.drive new.drive version sizes same s sound is_known was_sound was_known p.out p.cause.0)
   done_lasts host payload (commands.Expand sectors) answer data_in keeps p = (ssa_for old.drive.shape sectors ∷ sizes, expand_stays old.drive new.drive version sizes same s sound is_known was_sound was_known sectors p.out p.cause.0, λ none. absurd none)
-  done_lasts host payload (commands.Inquiry alloc) answer data_in keeps p = untouched_lasts p.untouched.same
+  done_lasts host payload (commands.Inquiry vital alloc) answer data_in keeps p = untouched_lasts p.untouched.same
   done_lasts host payload (commands.StartStop start eject) answer data_in keeps p = untouched_lasts p.untouched.same
   done_lasts host payload (commands.Prevent on) answer data_in keeps p = untouched_lasts p.untouched.same
   done_lasts host payload (commands.FormatCapacities alloc) answer data_in keeps p = untouched_lasts p.untouched.same
@@ -249,9 +252,12 @@ module _ (old new : CacheShown) (same : new.drive.shape ≡ old.drive.shape) (wa
   done_lasts host payload (commands.Verify lba n) answer data_in keeps p = as_sized (verify_stays old.drive new.drive version sizes same s sound is_known lba n p.out p.cause.0)
   done_lasts host payload commands.Synchronize answer data_in keeps p = as_sized (of_sync (StaysOn version sizes) (stays_on version sizes) old new p.out p.cause old.drive.shape was_on).1
   done_lasts host payload (commands.Configuration rt start alloc) answer data_in keeps p = untouched_lasts p.untouched.same
+  done_lasts host payload (commands.Events media alloc) answer data_in keeps p = untouched_lasts p.untouched.same
+  done_lasts host payload (commands.DiscInformation alloc) answer data_in keeps p = untouched_lasts p.untouched.same
   done_lasts host payload commands.ModeSelect answer data_in keeps p = as_sized (subst (λ (x : CacheShown). StaysFormatted x.drive version sizes) (sym p.mode) s)
-  done_lasts host payload (commands.ModeSense control page alloc) answer data_in keeps p = untouched_lasts p.untouched.same
+  done_lasts host payload (commands.ModeSense short control page alloc) answer data_in keeps p = untouched_lasts p.untouched.same
   done_lasts host payload (commands.Structure format alloc) answer data_in keeps p = told_lasts (format == 0x08) alloc answer data_in p
+  done_lasts host payload commands.Streaming answer data_in keeps p = untouched_lasts p.untouched.same
 
   judged_lasts : (host : Host) (formatted : Bool) (cdb payload : List ℕ) (judged : Result Command Sense) (answer : Answer) (data_in : List ℕ) → IsJudged host formatted cdb payload judged
       → IsAnsweredBy old new before after host payload judged answer data_in → KeepsAsDecoded (decoded cdb payload) → LastsOn new.drive version sizes (AsksNoExpansion (decoded cdb payload))

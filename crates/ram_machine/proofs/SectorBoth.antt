@@ -256,7 +256,7 @@ module _ (at : ℕ) (new : CacheShown) (t u : Contents) (stands : CacheStandsFor
     command_both lists (Ok commands.TestUnitReady) payload data_in answer none one other = other_both commands.TestUnitReady r payload data_in answer (λ a is. is) refl one other
     command_both lists (Ok (commands.RequestSense alloc)) payload data_in answer none one other = other_both (commands.RequestSense alloc) r payload data_in answer (λ a is. is) refl one other
     command_both lists (Ok (commands.Expand sectors)) payload data_in answer none one other = other_both (commands.Expand sectors) (if nat_lt at sectors then r else gone r) payload data_in answer (λ a is. is) refl one other
-    command_both lists (Ok (commands.Inquiry alloc)) payload data_in answer none one other = other_both (commands.Inquiry alloc) r payload data_in answer (λ a is. is) refl one other
+    command_both lists (Ok (commands.Inquiry vital alloc)) payload data_in answer none one other = other_both (commands.Inquiry vital alloc) r payload data_in answer (λ a is. is) refl one other
     command_both lists (Ok (commands.StartStop start eject)) payload data_in answer none one other = other_both (commands.StartStop start eject) r payload data_in answer (λ a is. is) refl one other
     command_both lists (Ok (commands.Prevent on)) payload data_in answer none one other = other_both (commands.Prevent on) r payload data_in answer (λ a is. is) refl one other
     command_both lists (Ok (commands.FormatCapacities alloc)) payload data_in answer none one other = other_both (commands.FormatCapacities alloc) r payload data_in answer (λ a is. is) refl one other
@@ -264,9 +264,12 @@ module _ (at : ℕ) (new : CacheShown) (t u : Contents) (stands : CacheStandsFor
     command_both lists (Ok (commands.Verify lba n)) payload data_in answer none one other = other_both (commands.Verify lba n) r payload data_in answer (λ a is. is) refl one other
     command_both lists (Ok commands.Synchronize) payload data_in answer none one other = other_both commands.Synchronize (synchronised r.now r) payload data_in answer (λ a is. is) refl one other
     command_both lists (Ok (commands.Configuration rt start alloc)) payload data_in answer none one other = other_both (commands.Configuration rt start alloc) r payload data_in answer (λ a is. is) refl one other
+    command_both lists (Ok (commands.Events media alloc)) payload data_in answer none one other = other_both (commands.Events media alloc) r payload data_in answer (λ a is. is) refl one other
+    command_both lists (Ok (commands.DiscInformation alloc)) payload data_in answer none one other = other_both (commands.DiscInformation alloc) r payload data_in answer (λ a is. is) refl one other
     command_both lists (Ok commands.ModeSelect) payload data_in answer none one other = other_both commands.ModeSelect (record r { caches = caches_after payload r.caches }) payload data_in answer (λ a is. is) refl one other
-    command_both lists (Ok (commands.ModeSense control page alloc)) payload data_in answer none one other = other_both (commands.ModeSense control page alloc) r payload data_in answer (λ a is. is) refl one other
+    command_both lists (Ok (commands.ModeSense short control page alloc)) payload data_in answer none one other = other_both (commands.ModeSense short control page alloc) r payload data_in answer (λ a is. is) refl one other
     command_both lists (Ok (commands.Structure format alloc)) payload data_in answer none one other = other_both (commands.Structure format alloc) r payload data_in answer (λ a is. is) refl one other
+    command_both lists (Ok commands.Streaming) payload data_in answer none one other = other_both commands.Streaming r payload data_in answer (λ a is. is) refl one other
 
     -- ---- a `power` line
     value_both : (Rule : Register → Type 0) (one_value other_value : Value) → ((value : Value) → Contains r.falls value → Rule (powered r (Some value) (value ∷ []))) → Contains r.falls one_value → Contains r.falls other_value

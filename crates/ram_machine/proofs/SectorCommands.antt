@@ -172,7 +172,7 @@ module _ (lost : List ℕ) (at : ℕ) (old new : CacheShown) (s t : Contents) (r
   quiet_command (Ok commands.TestUnitReady) payload data_in answer quiet none = quiet_other commands.TestUnitReady payload data_in answer quiet
   quiet_command (Ok (commands.RequestSense alloc)) payload data_in answer quiet none = quiet_other (commands.RequestSense alloc) payload data_in answer quiet
   quiet_command (Ok (commands.Expand sectors)) payload data_in answer quiet none = quiet_other (commands.Expand sectors) payload data_in answer quiet
-  quiet_command (Ok (commands.Inquiry alloc)) payload data_in answer quiet none = quiet_other (commands.Inquiry alloc) payload data_in answer quiet
+  quiet_command (Ok (commands.Inquiry vital alloc)) payload data_in answer quiet none = quiet_other (commands.Inquiry vital alloc) payload data_in answer quiet
   quiet_command (Ok (commands.StartStop start eject)) payload data_in answer quiet none = quiet_other (commands.StartStop start eject) payload data_in answer quiet
   quiet_command (Ok (commands.Prevent on)) payload data_in answer quiet none = quiet_other (commands.Prevent on) payload data_in answer quiet
   quiet_command (Ok (commands.FormatCapacities alloc)) payload data_in answer quiet none = quiet_other (commands.FormatCapacities alloc) payload data_in answer quiet
@@ -181,9 +181,12 @@ module _ (lost : List ℕ) (at : ℕ) (old new : CacheShown) (s t : Contents) (r
   quiet_command (Ok (commands.Verify lba n)) payload data_in answer quiet none = quiet_other (commands.Verify lba n) payload data_in answer quiet
   quiet_command (Ok commands.Synchronize) payload data_in answer quiet none = quiet_other commands.Synchronize payload data_in answer quiet
   quiet_command (Ok (commands.Configuration rt start alloc)) payload data_in answer quiet none = quiet_other (commands.Configuration rt start alloc) payload data_in answer quiet
+  quiet_command (Ok (commands.Events media alloc)) payload data_in answer quiet none = quiet_other (commands.Events media alloc) payload data_in answer quiet
+  quiet_command (Ok (commands.DiscInformation alloc)) payload data_in answer quiet none = quiet_other (commands.DiscInformation alloc) payload data_in answer quiet
   quiet_command (Ok commands.ModeSelect) payload data_in answer quiet none = quiet_other commands.ModeSelect payload data_in answer quiet
-  quiet_command (Ok (commands.ModeSense control page alloc)) payload data_in answer quiet none = quiet_other (commands.ModeSense control page alloc) payload data_in answer quiet
+  quiet_command (Ok (commands.ModeSense short control page alloc)) payload data_in answer quiet none = quiet_other (commands.ModeSense short control page alloc) payload data_in answer quiet
   quiet_command (Ok (commands.Structure format alloc)) payload data_in answer quiet none = quiet_other (commands.Structure format alloc) payload data_in answer quiet
+  quiet_command (Ok commands.Streaming) payload data_in answer quiet none = quiet_other commands.Streaming payload data_in answer quiet
 
   quiet_answered : (d : Result Command Sense) (payload data_in : List ℕ) (answer due : Answer) → IsQuiet due → IsAnswered old new (λ x. x ≡ s) (λ x. x ≡ t) answer due data_in [] → To (λ after. After d payload data_in answer after)
   quiet_answered d payload data_in answer due quiet p =
@@ -410,7 +413,7 @@ module _ (lost : List ℕ) (at : ℕ) (old new : CacheShown) (s t : Contents) (r
       subst (λ (a : Answer). To (λ after. FormatUnder old.drive.lists t r kind a after)) (sym p.answer_is)
       (format_turn lost at old new t r p.cause.2 s kind p.out stood was (subst IsPrinted p.answer_is printed) (p.step s refl))
   done_turn host payload data_in (commands.Expand sectors) answer printed given p = expand_turn sectors payload data_in answer printed p
-  done_turn host payload data_in (commands.Inquiry alloc) answer printed given p = told (commands.Inquiry alloc) payload data_in _ answer refl p
+  done_turn host payload data_in (commands.Inquiry vital alloc) answer printed given p = told (commands.Inquiry vital alloc) payload data_in _ answer refl p
   done_turn host payload data_in (commands.StartStop start eject) answer printed given p = told (commands.StartStop start eject) payload data_in _ answer refl p
   done_turn host payload data_in (commands.Prevent on) answer printed given p = told (commands.Prevent on) payload data_in _ answer refl p
   done_turn host payload data_in (commands.FormatCapacities alloc) answer printed given p = told (commands.FormatCapacities alloc) payload data_in _ answer refl p
@@ -420,8 +423,11 @@ module _ (lost : List ℕ) (at : ℕ) (old new : CacheShown) (s t : Contents) (r
   done_turn host payload data_in (commands.Verify lba n) answer printed given p = verify_turn lba n payload data_in answer printed p
   done_turn host payload data_in commands.Synchronize answer printed given p = sync_turn payload data_in answer printed p
   done_turn host payload data_in (commands.Configuration rt start alloc) answer printed given p = told (commands.Configuration rt start alloc) payload data_in _ answer refl p
+  done_turn host payload data_in (commands.Events media alloc) answer printed given p = told (commands.Events media alloc) payload data_in _ answer refl p
+  done_turn host payload data_in (commands.DiscInformation alloc) answer printed given p = told (commands.DiscInformation alloc) payload data_in _ answer refl p
   done_turn host payload data_in commands.ModeSelect answer printed given p = select_turn payload data_in answer p
-  done_turn host payload data_in (commands.ModeSense control page alloc) answer printed given p = told (commands.ModeSense control page alloc) payload data_in _ answer refl p
+  done_turn host payload data_in (commands.ModeSense short control page alloc) answer printed given p = told (commands.ModeSense short control page alloc) payload data_in _ answer refl p
+  done_turn host payload data_in commands.Streaming answer printed given p = told commands.Streaming payload data_in _ answer refl p
   done_turn host payload data_in (commands.Structure format alloc) answer printed given p = structure (format == 0x08) p
     where
       structure : (b : Bool) → MatchBool b (TellsStructure old new (λ x. x ≡ s) (λ x. x ≡ t) alloc answer data_in) (TellsSpares old new (λ x. x ≡ s) (λ x. x ≡ t) alloc answer data_in)

@@ -218,7 +218,7 @@ module _ (at : ℕ) where
   by_command choices r after (Ok commands.TestUnitReady) payload data_in answer is has = by_other choices r after commands.TestUnitReady payload data_in answer is has
   by_command choices r after (Ok (commands.RequestSense alloc)) payload data_in answer is has = by_other choices r after (commands.RequestSense alloc) payload data_in answer is has
   by_command choices r after (Ok (commands.Expand sectors)) payload data_in answer is has = by_other choices r after (commands.Expand sectors) payload data_in answer is has
-  by_command choices r after (Ok (commands.Inquiry alloc)) payload data_in answer is has = by_other choices r after (commands.Inquiry alloc) payload data_in answer is has
+  by_command choices r after (Ok (commands.Inquiry vital alloc)) payload data_in answer is has = by_other choices r after (commands.Inquiry vital alloc) payload data_in answer is has
   by_command choices r after (Ok (commands.StartStop start eject)) payload data_in answer is has = by_other choices r after (commands.StartStop start eject) payload data_in answer is has
   by_command choices r after (Ok (commands.Prevent on)) payload data_in answer is has = by_other choices r after (commands.Prevent on) payload data_in answer is has
   by_command choices r after (Ok (commands.FormatCapacities alloc)) payload data_in answer is has = by_other choices r after (commands.FormatCapacities alloc) payload data_in answer is has
@@ -227,9 +227,12 @@ module _ (at : ℕ) where
   by_command choices r after (Ok (commands.Verify lba n)) payload data_in answer is has = by_other choices r after (commands.Verify lba n) payload data_in answer is has
   by_command choices r after (Ok commands.Synchronize) payload data_in answer is has = by_other choices r after commands.Synchronize payload data_in answer is has
   by_command choices r after (Ok (commands.Configuration rt start alloc)) payload data_in answer is has = by_other choices r after (commands.Configuration rt start alloc) payload data_in answer is has
+  by_command choices r after (Ok (commands.Events media alloc)) payload data_in answer is has = by_other choices r after (commands.Events media alloc) payload data_in answer is has
+  by_command choices r after (Ok (commands.DiscInformation alloc)) payload data_in answer is has = by_other choices r after (commands.DiscInformation alloc) payload data_in answer is has
   by_command choices r after (Ok commands.ModeSelect) payload data_in answer is has = by_other choices r after commands.ModeSelect payload data_in answer is has
-  by_command choices r after (Ok (commands.ModeSense control page alloc)) payload data_in answer is has = by_other choices r after (commands.ModeSense control page alloc) payload data_in answer is has
+  by_command choices r after (Ok (commands.ModeSense short control page alloc)) payload data_in answer is has = by_other choices r after (commands.ModeSense short control page alloc) payload data_in answer is has
   by_command choices r after (Ok (commands.Structure format alloc)) payload data_in answer is has = by_other choices r after (commands.Structure format alloc) payload data_in answer is has
+  by_command choices r after (Ok commands.Streaming) payload data_in answer is has = by_other choices r after commands.Streaming payload data_in answer is has
 
   -- a line
   by_line : (choices : List (List ℕ)) (r after : Register) (line : Line) (payload : List ℕ) (reply : Reply) (data_in : List ℕ) → Turn at r line payload reply data_in after → Among r choices

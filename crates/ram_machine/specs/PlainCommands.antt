@@ -23,8 +23,8 @@ use Rattle.model_cdb.specs.declared.commands.Command.{Command}
 use Rattle.model_cdb.specs.declared.commands.Command.TheVariants as commands
 use Rattle.model_target.specs.declared.host.Host.{Host}
 use Rattle.model_target.specs.Judging.{IsJudged}
-use Rattle.model_target.specs.Replies.{sense_reply, inquiry_reply, capacity_reply, configuration_reply, structure_reply}
-use Rattle.model_target.specs.Steps.{read_answer, write_answer, format_answer, expand_answer, data_read, capacities_told, spares_told, host_after}
+use Rattle.model_target.specs.Replies.{sense_reply, inquiry_by, capacity_reply, events_reply, structure_reply}
+use Rattle.model_target.specs.Steps.{read_answer, write_answer, format_answer, expand_answer, data_read, configuration_told, disc_told, capacities_told, spares_told, host_after}
 
 module _ (old new : Shown) (s t : Standing) where
   -- Nothing was done on the disc, and this is the answer, with this reply. (What the drive shows and stands for is as before.)
@@ -93,8 +93,8 @@ module _ (old new : Shown) (s t : Standing) where
       PlainAnswer answer answers.Good data_in (take alloc (sense_reply host))
   PlainDone host payload (commands.Format kind) answer data_in = PlainFormat kind answer data_in
   PlainDone host payload (commands.Expand sectors) answer data_in = PlainExpansion sectors answer data_in
-  PlainDone host payload (commands.Inquiry alloc) answer data_in =
-      PlainAnswer answer answers.Good data_in (take alloc inquiry_reply)
+  PlainDone host payload (commands.Inquiry vital alloc) answer data_in =
+      PlainAnswer answer answers.Good data_in (take alloc (inquiry_by vital))
   PlainDone host payload (commands.StartStop start eject) answer data_in = PlainAnswer answer answers.Good data_in []
   PlainDone host payload (commands.Prevent on) answer data_in = PlainAnswer answer answers.Good data_in []
   PlainDone host payload (commands.FormatCapacities alloc) answer data_in =
@@ -106,12 +106,17 @@ module _ (old new : Shown) (s t : Standing) where
   PlainDone host payload (commands.Verify lba n) answer data_in = PlainVerification lba n answer data_in
   PlainDone host payload commands.Synchronize answer data_in = PlainAnswer answer answers.Good data_in []
   PlainDone host payload (commands.Configuration rt start alloc) answer data_in =
-      PlainAnswer answer answers.Good data_in (take alloc (configuration_reply host.out start))
+      PlainAnswer answer answers.Good data_in (take alloc (configuration_told rt start host.out old))
+  PlainDone host payload (commands.Events media alloc) answer data_in =
+      PlainAnswer answer answers.Good data_in (take alloc (events_reply media host.out))
+  PlainDone host payload (commands.DiscInformation alloc) answer data_in =
+      PlainAnswer answer answers.Good data_in (take alloc (disc_told old))
   PlainDone host payload commands.ModeSelect answer data_in = PlainAnswer answer answers.Good data_in []
-  PlainDone host payload (commands.ModeSense control page alloc) answer data_in =
-      PlainAnswer answer answers.Good data_in (take alloc (mode_data control false page))
+  PlainDone host payload (commands.ModeSense short control page alloc) answer data_in =
+      PlainAnswer answer answers.Good data_in (take alloc (mode_data short control false host.prevented page))
   PlainDone host payload (commands.Structure format alloc) answer data_in =
       MatchBool (format == 0x08) (PlainStructure alloc answer data_in) (PlainSpares alloc answer data_in)
+  PlainDone host payload commands.Streaming answer data_in = PlainAnswer answer answers.Good data_in []
 
   -- how a command is answered that was judged so
   abbrev pub PlainlyAnswered : Host → (payload : List ℕ) → Result Command Sense → Answer → List ℕ → Type 0

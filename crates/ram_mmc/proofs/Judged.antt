@@ -30,7 +30,7 @@ module _ (host : Host) (formatted : Bool) (payload : List ℕ) (P : Command → 
   allowed_holds (commands.RequestSense alloc) result allowed holds = by_reasons (commands.RequestSense alloc) result allowed holds
   allowed_holds (commands.Format kind) result allowed holds = by_reasons (commands.Format kind) result allowed holds
   allowed_holds (commands.Expand sectors) result allowed holds = by_reasons (commands.Expand sectors) result allowed holds
-  allowed_holds (commands.Inquiry alloc) result allowed holds = by_reasons (commands.Inquiry alloc) result allowed holds
+  allowed_holds (commands.Inquiry vital alloc) result allowed holds = by_reasons (commands.Inquiry vital alloc) result allowed holds
   allowed_holds (commands.StartStop start eject) result allowed holds = by_reasons (commands.StartStop start eject) result allowed holds
   allowed_holds (commands.Prevent on) result allowed holds = by_reasons (commands.Prevent on) result allowed holds
   allowed_holds (commands.FormatCapacities alloc) result allowed holds = by_reasons (commands.FormatCapacities alloc) result allowed holds
@@ -40,8 +40,11 @@ module _ (host : Host) (formatted : Bool) (payload : List ℕ) (P : Command → 
   allowed_holds (commands.Verify lba n) result allowed holds = by_reasons (commands.Verify lba n) result allowed holds
   allowed_holds commands.Synchronize result allowed holds = by_reasons commands.Synchronize result allowed holds
   allowed_holds (commands.Configuration rt start alloc) result allowed holds = by_reasons (commands.Configuration rt start alloc) result allowed holds
-  allowed_holds (commands.ModeSense control page alloc) result allowed holds = by_reasons (commands.ModeSense control page alloc) result allowed holds
+  allowed_holds (commands.Events media alloc) result allowed holds = by_reasons (commands.Events media alloc) result allowed holds
+  allowed_holds (commands.DiscInformation alloc) result allowed holds = by_reasons (commands.DiscInformation alloc) result allowed holds
+  allowed_holds (commands.ModeSense short control page alloc) result allowed holds = by_reasons (commands.ModeSense short control page alloc) result allowed holds
   allowed_holds (commands.Structure format alloc) result allowed holds = by_reasons (commands.Structure format alloc) result allowed holds
+  allowed_holds commands.Streaming result allowed holds = by_reasons commands.Streaming result allowed holds
 
 -- without a formatted disc a command that needs one is refused, whatever else is against it
 refused_unformatted : (prevented ejected out : Bool) (first second third : Sense) (command : Command) (P : Command → Type 0)

@@ -1,3 +1,4 @@
 pub mod Judged
 pub mod Executed
+pub mod Asked
 pub mod Tellings

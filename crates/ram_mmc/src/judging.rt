@@ -60,7 +60,7 @@ fn allowed(host: &Host, formatted: bool, payload: &[u8], command: Command) -> Re
     ensures { IsAllowed host.now formatted payload.now command result }
 {
     if matches!(command, Command::ModeSelect) {
-        return match Modes::new(false).select(payload) {
+        return match Modes::new(false, false).select(payload) {
             Ok(()) => Ok(command),
             Err(why) => Err(why),
         };
@@ -88,7 +88,10 @@ fn passes_attention(operation: Operation) -> bool
 {
     matches!(
         operation,
-        Operation::Inquiry | Operation::RequestSense | Operation::GetConfiguration
+        Operation::Inquiry
+            | Operation::RequestSense
+            | Operation::GetConfiguration
+            | Operation::GetEventStatusNotification
     )
 }
 
@@ -115,6 +118,7 @@ fn needs_disc(command: Command) -> bool
             | Command::Write { .. }
             | Command::Verify { .. }
             | Command::Synchronize
+            | Command::DiscInformation { .. }
             | Command::Structure { .. }
     )
 }
@@ -123,7 +127,7 @@ fn needs_format(command: Command) -> bool
     ensures { result ≡ needs_format command }
 {
     match command {
-        Command::Format { .. } => false,
+        Command::Format { .. } | Command::DiscInformation { .. } => false,
         _ => needs_disc(command),
     }
 }

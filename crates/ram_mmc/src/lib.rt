@@ -23,13 +23,17 @@
 //! - MODE SELECT(10): the write cache is turned on or off, or left as it was.
 //! - VERIFY(10): a verification of the disc: each block is read from its home, and no data are given.
 //! - FORMAT UNIT: a format of the disc, or an expansion of its spares, by the type in its list.
-//! - READ CAPACITY, READ FORMAT CAPACITIES: what the disc tells: its number of sectors; or the one that a format gives, where it
-//!   is not formatted or out.
+//! - READ CAPACITY, READ FORMAT CAPACITIES: what the disc tells: its number of sectors; or the one that a format gives, where it is
+//!   not formatted or out, and also, behind it, where the disc is in.
+//! - GET CONFIGURATION: the features that are asked for: which are current, and what they say, by whether the disc is in and
+//!   formatted, and by its number of sectors.
+//! - READ DISC INFORMATION: whether the disc is formatted.
 //! - READ DVD STRUCTURE: what the disc tells: by format 08h the first 2,048 bytes of its definition structure, by 0Ah its free
 //!   spares.
-//! - REQUEST SENSE, INQUIRY, GET CONFIGURATION, MODE SENSE(10): a reply that needs no disc.
+//! - REQUEST SENSE, INQUIRY, GET EVENT STATUS NOTIFICATION, MODE SENSE(6), MODE SENSE(10): a reply that needs no disc, by what is
+//!   remembered.
 //! - START STOP UNIT, PREVENT ALLOW MEDIUM REMOVAL: what is remembered.
-//! - TEST UNIT READY: nothing.
+//! - TEST UNIT READY, SET STREAMING: nothing.
 //!
 //! The comment at `Target::execute` has each of its answers, and when it comes. Data come with `Good` alone.
 //!
@@ -57,12 +61,15 @@
 //! 5. One case in each lemma that goes through the commands.
 //!    - `ram_cdb/proofs/Limits.antt`.
 //!    - `model_target/proofs`: `Counted.antt`, `Found.antt` and `Sensed.antt`.
-//!    - `proofs/Judged.antt` and `proofs/Executed.antt`.
-//!    - `ram_machine/proofs`: `Labels.antt`, `Acknowledged.antt`, `FairRuns.antt`.
+//!    - `proofs/Judged.antt`.
+//!    - `ram_machine/proofs`: `Acknowledged.antt`, `Alone.antt`, `FairRuns.antt`, `FallenBack.antt`, `KeptPower.antt`,
+//!      `Labels.antt`, `LastingRuns.antt`, `SectorBoth.antt`, `SectorCommands.antt`, `SectorNothing.antt`, `SectorSettled.antt`; and
+//!      its row in `ram_machine/specs/PlainCommands.antt`.
 //! 6. Rows of `ram_command_tests` and `tests/rows`.
 //! 7. `docs/SCRIPT.md`, `crates/ram_run/src/help.rt` and `man/ram_drive.1`.
 #![tactic(auto)]
 
+mod features;
 mod judging;
 mod replies;
 pub mod target;

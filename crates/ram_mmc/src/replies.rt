@@ -1,8 +1,8 @@
 //! The bytes that a target replies.
 
-ghost use Rattle.std.specs.Prelude.{◌≡◌, ◌≢◌, ◌≤◌, ◌+◌, ◌++◌, ℕ, [], length, take, vec_capacity};
+ghost use Rattle.std.specs.Prelude.{◌≡◌, ◌≤◌, ◌+◌, ◌++◌, [], length, take, vec_capacity};
 ghost use Rattle.model_target.specs.Host.{sense_told};
-ghost use Rattle.model_target.specs.Replies.{inquiry_reply, capacity_reply, configuration_reply, capacity_descriptor, format_capacities_reply, structure_reply, spares_reply};
+ghost use Rattle.model_target.specs.Replies.{inquiry_reply, inquiry_by, capacity_reply, events_reply, disc_reply, capacity_descriptor, present_capacity, format_capacities_reply, structure_reply, spares_reply};
 ghost use Rattle.ram_mmc.specs.declared.replies.TheConstants.{INQUIRY};
 
 use model_target::Host;
@@ -37,7 +37,8 @@ pub fn reply_structure(data_in: &mut Vec<u8>, text: &Block, allocation: u32)
     cut(data_in, allocation);
 }
 
-fn put(data_in: &mut Vec<u8>, bytes: &[u8])
+/// Puts these bytes behind those that are there.
+pub fn put(data_in: &mut Vec<u8>, bytes: &[u8])
     requires room { length data_in.old.items + length bytes.now ≤ vec_capacity data_in.old }
     ensures given { data_in.new.items ≡ data_in.old.items ++ bytes.now }
     ensures room { vec_capacity data_in.old ≤ vec_capacity data_in.new }
@@ -48,7 +49,8 @@ fn put(data_in: &mut Vec<u8>, bytes: &[u8])
     }
 }
 
-fn cut(data_in: &mut Vec<u8>, allocation: u32)
+/// Cuts a reply to the allocation length.
+pub fn cut(data_in: &mut Vec<u8>, allocation: u32)
     ensures given { data_in.new.items ≡ take allocation data_in.old.items }
     ensures room { vec_capacity data_in.new ≡ vec_capacity data_in.old }
 {
@@ -66,7 +68,7 @@ pub fn sense_told(host: &Host) -> Sense
     }
 }
 
-/// The data of READ CAPACITY on a disc of so many sectors: the last one, and how many bytes a sector has.
+/// The data of READ CAPACITY on a disc of n sectors: the last one, and how many bytes a sector has.
 pub fn capacity_reply(capacity: u32) -> [u8; 8]
     ensures { result ≡ capacity_reply capacity }
 {
@@ -74,33 +76,81 @@ pub fn capacity_reply(capacity: u32) -> [u8; 8]
     [a, b, c, d, 0x00, 0x00, 0x08, 0x00]
 }
 
-/// The data of GET CONFIGURATION with the list of profiles, which is the only feature: the profile of DVD-RAM, current while
-/// the disc is in.
-pub fn profiles_reply(out: bool) -> [u8; 16]
-    ensures { result ≡ configuration_reply out 0 }
+/// Puts the data of INQUIRY into `data_in`, or those of its list of the pages of vital product data, cut to the allocation length.
+pub fn reply_inquiry(data_in: &mut Vec<u8>, vital: bool, allocation: u32)
+    requires empty { data_in.old.items ≡ [] }
+    requires room { 36 ≤ vec_capacity data_in.old }
+    ensures given { data_in.new.items ≡ take allocation (inquiry_by vital) }
+    ensures room { vec_capacity data_in.old ≤ vec_capacity data_in.new }
 {
-    let (profile, current) = if out { (0x00, 0) } else { (0x12, 1) };
+    if vital {
+        reply(data_in, &[0x05, 0x00, 0x00, 0x01, 0x00], allocation);
+    } else {
+        reply(data_in, INQUIRY, allocation);
+    }
+}
+
+/// Puts the data of GET EVENT STATUS NOTIFICATION into `data_in`, cut to the allocation length: where events of the medium are asked
+/// for, that there is none, and whether the disc is in or the tray open.
+pub fn reply_events(data_in: &mut Vec<u8>, media: bool, out: bool, allocation: u32)
+    requires empty { data_in.old.items ≡ [] }
+    requires room { 8 ≤ vec_capacity data_in.old }
+    ensures given { data_in.new.items ≡ take allocation (events_reply media out) }
+    ensures room { vec_capacity data_in.old ≤ vec_capacity data_in.new }
+{
+    if media {
+        let status = if out { 0x01 } else { 0x02 };
+        reply(
+            data_in,
+            &[0x00, 0x06, 0x04, 0x10, 0x00, status, 0x00, 0x00],
+            allocation,
+        );
+    } else {
+        reply(data_in, &[0x00, 0x02, 0x80, 0x10], allocation);
+    }
+}
+
+/// The data of READ DISC INFORMATION, with a disc that is formatted or not.
+pub fn disc_reply(formatted: bool) -> [u8; 34]
+    ensures { result ≡ disc_reply formatted }
+{
+    let state = if formatted { 0x1f } else { 0x10 };
     [
-        0, 0, 0, 12, 0, 0, 0, profile, 0, 0, 0x03, 0x04, 0, 0x12, current, 0,
+        0x00, 0x20, state, 0x01, 0x01, 0x01, 0x01, 0x20, 0, 0, 0, 0, 0, 0, 0, 0, 0, 0, 0, 0, 0, 0,
+        0, 0, 0, 0, 0, 0, 0, 0, 0, 0, 0, 0,
     ]
 }
 
-/// The data of GET CONFIGURATION without a feature.
-pub fn no_features_reply(out: bool) -> [u8; 8]
-    ensures { (start : ℕ) → start ≢ 0 → result ≡ configuration_reply out start }
-{
-    let profile = if out { 0x00 } else { 0x12 };
-    [0, 0, 0, 4, 0, 0, 0, profile]
-}
-
-/// The data of READ FORMAT CAPACITIES: on a formatted disc its number of sectors, else what a format gives.
-pub fn format_capacities_reply(
+/// Puts the data of READ FORMAT CAPACITIES into `data_in`, cut to the allocation length: on a formatted disc its number of sectors,
+/// else what a format gives, and then, with a disc, what a format gives.
+pub fn reply_capacities(
+    data_in: &mut Vec<u8>,
     out: bool,
     formatted: bool,
     capacity: u32,
     formattable: u32,
-) -> [u8; 12]
-    ensures { result ≡ format_capacities_reply out formatted capacity formattable }
+    allocation: u32,
+)
+    requires empty { data_in.old.items ≡ [] }
+    requires room { 20 ≤ vec_capacity data_in.old }
+    ensures given { data_in.new.items
+        ≡ take allocation (format_capacities_reply out formatted capacity formattable) }
+    ensures room { vec_capacity data_in.old ≤ vec_capacity data_in.new }
+{
+    put(data_in, &[0, 0, 0, if out { 8 } else { 16 }]);
+    put(
+        data_in,
+        &present_capacity(out, formatted, capacity, formattable),
+    );
+    if !out {
+        put(data_in, &capacity_descriptor(formattable, 0));
+    }
+    cut(data_in, allocation);
+}
+
+/// The descriptor of what the disc has, if it is formatted, else of what a format gives.
+fn present_capacity(out: bool, formatted: bool, capacity: u32, formattable: u32) -> [u8; 8]
+    ensures { result ≡ present_capacity out formatted capacity formattable }
 {
     match (out, formatted) {
         (true, _) => capacity_descriptor(formattable, 3),
@@ -110,11 +160,11 @@ pub fn format_capacities_reply(
 }
 
 /// A number of sectors, what it is the number of, and how many bytes a sector has.
-fn capacity_descriptor(sectors: u32, kind: u8) -> [u8; 12]
+fn capacity_descriptor(sectors: u32, kind: u8) -> [u8; 8]
     ensures { result ≡ capacity_descriptor sectors kind }
 {
     let [a, b, c, d] = sectors.to_be_bytes();
-    [0, 0, 0, 8, a, b, c, d, kind, 0x00, 0x08, 0x00]
+    [a, b, c, d, kind, 0x00, 0x08, 0x00]
 }
 
 /// The data of READ DVD STRUCTURE of format 0Ah: how many primary spares are free, how many supplementary ones, and how many

@@ -9,11 +9,10 @@ ghost use Rattle.model_target.specs.Host.{powered_on, done_by, kept_after, atten
 ghost use Rattle.model_target.specs.Steps.{IsDone, IsAnsweredBy, IsExecuted, IsStep, IsPoweredAgain, host_after};
 ghost use Rattle.ram_mmc.specs.Looks.{CanBeDone, DiscLookRule, IsFormattedAs};
 
+use crate::features::Wanted;
 use crate::judging::{is_told, judge};
-use crate::replies::{
-    INQUIRY, capacity_reply, no_features_reply, profiles_reply, reply, sense_told,
-};
-use crate::telling::{tell_capacities, tell_structure};
+use crate::replies::{capacity_reply, reply, reply_events, reply_inquiry, sense_told};
+use crate::telling::{tell_capacities, tell_configuration, tell_disc, tell_structure};
 use crate::transfers::{expand, format, read, select, synchronize, verify, write};
 use model_commands::Operation;
 use model_target::Host;
@@ -39,7 +38,7 @@ pub enum Look {
     Off,
     /// The power is on, and the disc is not formatted.
     NotFormatted,
-    /// The disc is formatted, and has so many sectors.
+    /// The disc is formatted, and has n sectors.
     Formatted(u32),
 }
 
@@ -102,7 +101,8 @@ impl<D: Caching> Target<D> {
     /// applies is the answer:
     ///
     /// Off, where the power is off; 5/20/00 for an operation code that is none of the drive's; 6/29/00 at the first command
-    /// after a power on, but for INQUIRY, REQUEST SENSE and GET CONFIGURATION, if REQUEST SENSE did not tell so before;
+    /// after a power on, but for INQUIRY, REQUEST SENSE, GET CONFIGURATION and GET EVENT STATUS NOTIFICATION, if REQUEST SENSE
+    /// did not tell so before;
     /// 5/24/00, 5/39/00, 5/1A/00 and 5/26/00 for the command block and its data; 5/53/02 where ejection is asked for and
     /// removal prevented; 2/3A/00 without a disc; 3/31/00 on a disc that is not formatted; 5/21/00 past its end; 5/26/00 for
     /// an expansion to a capacity that it cannot have; and what the disc answers.
@@ -163,7 +163,7 @@ impl<D: Caching> Target<D> {
         }
     }
 
-    /// The same while the power is on, on a disc of so many sectors, or one that is not formatted.
+    /// The same while the power is on, on a disc of n sectors, or one that is not formatted.
     fn execute_on(
         &mut self,
         formatted: Option<u32>,
@@ -194,7 +194,7 @@ impl<D: Caching> Target<D> {
         answer
     }
 
-    /// Answers a command that was judged so, on a disc of so many sectors, 0 where it is not formatted.
+    /// Answers a command that was judged so, on a disc of n sectors, 0 where it is not formatted.
     fn answer(
         &mut self,
         judged: Result<Command, Sense>,
@@ -224,7 +224,7 @@ impl<D: Caching> Target<D> {
         }
     }
 
-    /// Does a command, on a disc of so many sectors, 0 where it is not formatted.
+    /// Does a command, on a disc of n sectors, 0 where it is not formatted.
     fn do_command(
         &mut self,
         command: Command,
@@ -260,7 +260,7 @@ impl<D: Caching> Target<D> {
             Command::RequestSense { alloc } => {
                 reply(data_in, &sense_told(&self.host).to_bytes(), alloc)
             }
-            Command::Inquiry { alloc } => reply(data_in, INQUIRY, alloc),
+            Command::Inquiry { vital, alloc } => reply_inquiry(data_in, vital, alloc),
             Command::ReadCapacity => reply(data_in, &capacity_reply(sectors), 8),
             Command::FormatCapacities { alloc } => {
                 tell_capacities(&self.disc, self.host.out, alloc, data_in)
@@ -268,20 +268,27 @@ impl<D: Caching> Target<D> {
             Command::Structure { format, alloc } => {
                 tell_structure(&self.disc, &mut self.block, format, alloc, data_in)
             }
-            Command::Configuration {
-                start: 0,
-                alloc,
-                ..
-            } => { reply(data_in, &profiles_reply(self.host.out), alloc) }
-            Command::Configuration { alloc, .. } => {
-                reply(data_in, &no_features_reply(self.host.out), alloc)
+            Command::Configuration { rt, start, alloc } => {
+                let wanted = Wanted::new(rt, start);
+                tell_configuration(&self.disc, wanted, self.host.out, alloc, data_in)
             }
+            Command::Events { media, alloc } => {
+                reply_events(data_in, media, self.host.out, alloc)
+            }
+            Command::DiscInformation { alloc } => tell_disc(&self.disc, alloc, data_in),
             Command::ModeSense {
+                short,
                 control,
                 page,
                 alloc,
-            } => Modes::new(self.disc.caches()).sense_within(control, page, alloc, data_in),
-            Command::TestUnitReady | Command::StartStop { .. } | Command::Prevent { .. } => {}
+            } => {
+                let modes = Modes::new(self.disc.caches(), self.host.prevented);
+                modes.sense_within(short, control, page, alloc, data_in)
+            }
+            Command::TestUnitReady
+            | Command::StartStop { .. }
+            | Command::Prevent { .. }
+            | Command::Streaming => {}
         }
         Answer::Good
     }

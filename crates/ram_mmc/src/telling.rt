@@ -6,13 +6,45 @@ ghost use Rattle.model_commands.specs.declared.TheConstants.{TRANSFER_LIMIT};
 ghost use Rattle.model_sense.specs.declared.answer.Answer.TheVariants as answers;
 ghost use Rattle.model_drive.specs.Shown.{IsOn};
 ghost use Rattle.model_drive.specs.Tells.{HasDisc};
-ghost use Rattle.model_target.specs.Steps.{TellsStructure, TellsSpares, capacities_told, spares_told};
+ghost use Rattle.model_target.specs.Steps.{TellsStructure, TellsSpares, configuration_told, disc_told, capacities_told, spares_told};
 
-use crate::replies::{format_capacities_reply, reply, reply_structure, spares_reply};
+use crate::features::Wanted;
+use crate::replies::{disc_reply, reply, reply_capacities, reply_structure, spares_reply};
 use ram_bytes::Block;
 use ram_sectors::Caching;
 
-/// Tells in `data_in` the capacity that the disc has, or that a format gives it, cut to the allocation length.
+/// Tells in `data_in` which features the drive has, of those that are asked for, cut to the allocation length.
+pub fn tell_configuration<D: Caching>(
+    disc: &D,
+    wanted: Wanted,
+    out: bool,
+    allocation: u32,
+    data_in: &mut Vec<u8>,
+)
+    requires on { IsOn (D.shows disc.now).drive }
+    requires empty { data_in.old.items ≡ [] }
+    requires room { 2048 * TRANSFER_LIMIT ≤ vec_capacity data_in.old }
+    ensures given { data_in.new.items
+        ≡ take allocation (configuration_told wanted.kind wanted.first out (D.shows disc.now).drive) }
+    ensures room { vec_capacity data_in.old ≤ vec_capacity data_in.new }
+{
+    let counts = disc.counts();
+    wanted.reply(data_in, out, counts.formatted, counts.capacity, allocation);
+}
+
+/// Tells in `data_in` what kind of disc is in the drive, cut to the allocation length.
+pub fn tell_disc<D: Caching>(disc: &D, allocation: u32, data_in: &mut Vec<u8>)
+    requires on { IsOn (D.shows disc.now).drive }
+    requires empty { data_in.old.items ≡ [] }
+    requires room { 2048 * TRANSFER_LIMIT ≤ vec_capacity data_in.old }
+    ensures given { data_in.new.items ≡ take allocation (disc_told (D.shows disc.now).drive) }
+    ensures room { vec_capacity data_in.old ≤ vec_capacity data_in.new }
+{
+    let counts = disc.counts();
+    reply(data_in, &disc_reply(counts.formatted), allocation);
+}
+
+/// Tells in `data_in` the capacity that the disc has, and that a format gives it, cut to the allocation length.
 pub fn tell_capacities<D: Caching>(disc: &D, out: bool, allocation: u32, data_in: &mut Vec<u8>)
     requires on { IsOn (D.shows disc.now).drive }
     requires empty { data_in.old.items ≡ [] }
@@ -21,8 +53,14 @@ pub fn tell_capacities<D: Caching>(disc: &D, out: bool, allocation: u32, data_in
     ensures room { vec_capacity data_in.old ≤ vec_capacity data_in.new }
 {
     let counts = disc.counts();
-    let whole = format_capacities_reply(out, counts.formatted, counts.capacity, counts.formattable);
-    reply(data_in, &whole, allocation);
+    reply_capacities(
+        data_in,
+        out,
+        counts.formatted,
+        counts.capacity,
+        counts.formattable,
+        allocation,
+    );
 }
 
 /// Tells in `data_in` what the disc says of itself, cut to the allocation length: the structure in use by format 08h, else its

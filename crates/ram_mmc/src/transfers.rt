@@ -104,7 +104,7 @@ pub fn select<D: Caching>(disc: &mut D, payload: &[u8]) -> Answer
     ensures same_shape { (D.shows disc.new).drive.shape ≡ (D.shows disc.old).drive.shape }
     ensures underwent { D.underwent disc.old disc.new }
 {
-    let mut modes = Modes::new(disc.caches());
+    let mut modes = Modes::new(disc.caches(), false);
     match modes.select(payload) {
         Ok(()) => disc.write_cache(modes.caches),
         Err(_) => unreachable!(),

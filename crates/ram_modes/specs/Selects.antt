@@ -1,4 +1,4 @@
--- How MODE SELECT(10) is answered: for whoever takes its parameter list.
+-- How MODE SELECT(10) is answered: for taking its parameter list.
 use Rattle.std.specs.Prelude.{◌≡◌, ℕ, Bool, Result, Ok, Err, List}
 use Rattle.model_sense.specs.Sense.{sense}
 use Rattle.model_sense.specs.declared.sense.Sense.{Sense}

@@ -1,55 +1,64 @@
 //! The mode pages as a host sees them.
-ghost use Rattle.std.specs.Prelude.{◌≡◌, ◌+◌, ◌≤◌, ◌<◌, ◌++◌, length, replicate, take, vec_len, vec_capacity, IsTrue};
-ghost use Rattle.byteorder.specs.Endian.{big_bytes};
-ghost use Rattle.model_modes.specs.Pages.{is_page_code, mode_data};
+ghost use Rattle.std.specs.Prelude.{◌≡◌, ◌+◌, ◌≤◌, ◌<◌, ◌++◌, length, take, vec_len, vec_capacity, IsTrue};
+ghost use Rattle.model_modes.specs.Pages.{is_page_code, mode_header, mode_data};
 ghost use Rattle.ram_modes.specs.Selects.{Selects};
 
-use crate::pages::{caches_after, has_current_pages, header, page_by, page_with};
+use crate::pages::{
+    CAPABILITIES, caches_after, capabilities_by, has_current_pages, page_by, page_with,
+};
 use model_modes::Page;
 use ram_sense::Sense;
 use ram_sense::codes::INVALID_FIELD_IN_PARAMETERS;
 
-/// The mode pages of the drive: the one value of them that may be changed.
+/// The mode pages of the drive: the values of them that change.
 #[derive(Clone, Copy, Debug, PartialEq, Eq)]
 pub struct Modes {
-    /// Whether writes are cached (WCE).
+    /// Whether writes are cached (WCE), which a list may set.
     pub caches: bool,
+    /// Whether removal is prevented.
+    pub locked: bool,
 }
 
 impl Modes {
-    /// The pages of a drive whose write cache is on or off.
+    /// The pages of a drive whose write cache is on or off, with removal prevented or not.
     ///
     /// # Clauses
     ///
-    /// - pages of a drive whose write cache is on or off, as is given.
-    pub fn new(caches: bool) -> Modes
-        ensures { result.caches ≡ caches }
+    /// - pages of a drive whose write cache is on or off, with removal prevented or not, as is given.
+    pub fn new(caches: bool, locked: bool) -> Modes
+        ensures caches { result.caches ≡ caches }
+        ensures locked { result.locked ≡ locked }
     {
-        Modes { caches }
+        Modes { caches, locked }
     }
 
-    /// Appends the data of MODE SENSE(10): of the page with this code, or of all of them, with the values for which this
-    /// page control asks. (After INCITS SPC.)
+    /// Appends the data of MODE SENSE(6), whose header is short, or of MODE SENSE(10): of the page with this code, or of all of
+    /// them, with the values for which this page control asks. (After INCITS SPC.)
     ///
     /// # Clauses
     ///
-    /// - `appended`: behind what was there stands the whole reply, `mode_data`: a header of eight bytes that tells how many bytes
-    ///   follow its first two, then page 01h, page 08h, or both in this order for 3Fh; with page control 0 the values in force,
-    ///   with 1 the bits that may be changed, with 2 the default values, in which the write cache is off.
+    /// - `appended`: behind what was there stands the whole reply, `mode_data`: a header that tells how many bytes follow, of four
+    ///   bytes for MODE SENSE(6) and of eight for MODE SENSE(10), then page 01h, page 08h, page 2Ah, or all in this order for 3Fh;
+    ///   with page control 0 the values in force, with 1 the bits that may be changed, with 2 the default values, in which the
+    ///   write cache is off and removal is allowed.
     /// - `room`: the room of the list is no smaller.
-    pub fn sense(&self, control: u8, page: u8, out: &mut Vec<u8>)
+    pub fn sense(&self, short: bool, control: u8, page: u8, out: &mut Vec<u8>)
         requires control { control < 3 }
         requires page { IsTrue (is_page_code page) }
-        requires room { vec_len out.old + 32 ≤ vec_capacity out.old }
-        ensures appended { out.new.items ≡ out.old.items ++ mode_data control self.now.caches page }
+        requires room { vec_len out.old + 64 ≤ vec_capacity out.old }
+        ensures appended { out.new.items
+            ≡ out.old.items ++ mode_data short control self.now.caches self.now.locked page }
         ensures room { vec_capacity out.old ≤ vec_capacity out.new }
     {
+        let capabilities = capabilities_by(control, self.locked);
         match page_with(page) {
-            Some(page) => put_page(out, &page_by(control, self.caches, page)),
+            Some(page) => put_page(out, short, &page_by(control, self.caches, page)),
+            None if page == CAPABILITIES => put_page(out, short, &capabilities),
             None => {
-                put(out, &header(24));
+                put_header(out, short, 56);
                 put(out, &page_by(control, self.caches, Page::ErrorRecovery));
                 put(out, &page_by(control, self.caches, Page::Caching));
+                put(out, &capabilities);
             }
         }
     }
@@ -59,15 +68,23 @@ impl Modes {
     /// # Clauses
     ///
     /// - `appended`: the same, cut to the allocation length.
-    pub fn sense_within(&self, control: u8, page: u8, allocation: u32, out: &mut Vec<u8>)
+    pub fn sense_within(
+        &self,
+        short: bool,
+        control: u8,
+        page: u8,
+        allocation: u32,
+        out: &mut Vec<u8>,
+    )
         requires control { control < 3 }
         requires page { IsTrue (is_page_code page) }
-        requires room { vec_len out.old + 32 ≤ vec_capacity out.old }
-        ensures appended { out.new.items ≡ out.old.items ++ take allocation (mode_data control self.now.caches page) }
+        requires room { vec_len out.old + 64 ≤ vec_capacity out.old }
+        ensures appended { out.new.items
+            ≡ out.old.items ++ take allocation (mode_data short control self.now.caches self.now.locked page) }
         ensures room { vec_capacity out.old ≤ vec_capacity out.new }
     {
         let start = out.len();
-        self.sense(control, page, out);
+        self.sense(short, control, page, out);
         out.truncate(start.saturating_add(allocation as usize));
     }
 
@@ -90,6 +107,7 @@ impl Modes {
     /// - `Err`: every other list, as 5/26/00; nothing changed. (`Selects`)
     pub fn select(&mut self, payload: &[u8]) -> Result<(), Sense>
         ensures cases { Selects payload.now self.old.caches self.new.caches result }
+        ensures locked { self.new.locked ≡ self.old.locked }
     {
         if payload.is_empty() || has_current_pages(payload) {
             self.caches = caches_after(payload, self.caches);
@@ -101,14 +119,29 @@ impl Modes {
 }
 
 // Appends the header and one page.
-fn put_page(out: &mut Vec<u8>, page: &[u8])
-    requires length { length page.now ≡ 12 }
-    requires room { vec_len out.old + 32 ≤ vec_capacity out.old }
-    ensures appended { out.new.items ≡ out.old.items ++ big_bytes 2 18 ++ replicate 6 0 ++ page.now }
+fn put_page(out: &mut Vec<u8>, short: bool, page: &[u8])
+    requires length { length page.now < 56 }
+    requires room { vec_len out.old + length page.now + 8 ≤ vec_capacity out.old }
+    ensures appended { out.new.items ≡ out.old.items ++ mode_header short (length page.now) ++ page.now }
     ensures room { vec_capacity out.old ≤ vec_capacity out.new }
 {
-    put(out, &header(12));
+    put_header(out, short, page.len() as u8);
     put(out, page);
+}
+
+// Appends the header before n bytes of pages.
+fn put_header(out: &mut Vec<u8>, short: bool, pages: u8)
+    requires length { pages < 57 }
+    requires room { vec_len out.old + 8 ≤ vec_capacity out.old }
+    ensures appended { out.new.items ≡ out.old.items ++ mode_header short pages }
+    ensures length { vec_len out.new ≤ vec_len out.old + 8 }
+    ensures room { vec_capacity out.old ≤ vec_capacity out.new }
+{
+    if short {
+        put(out, &[3 + pages, 0, 0, 0]);
+    } else {
+        put(out, &[0, 6 + pages, 0, 0, 0, 0, 0, 0]);
+    }
 }
 
 // Appends these bytes.

@@ -1,19 +1,24 @@
 //! The bytes of the mode pages, and of the header before them.
-ghost use Rattle.std.specs.Prelude.{◌≡◌, ◌+◌, ◌*◌, ◌<◌, ◌≤◌, ◌↔◌, ◌++◌, length, replicate, IsTrue};
-ghost use Rattle.byteorder.specs.Endian.{big_bytes};
-ghost use Rattle.model_modes.specs.Pages.{code, current_page, changeable_page, is_page_code, page_by, page_with};
+ghost use Rattle.std.specs.Prelude.{◌≡◌, ◌+◌, ◌*◌, ◌<◌, ◌≤◌, ◌↔◌, length, IsTrue};
+ghost use Rattle.model_modes.specs.Pages.{code, current_page, changeable_page, capabilities_by, asks_for_capabilities, is_page_code, page_by, page_with};
 ghost use Rattle.model_modes.specs.ParameterLists.{HasCurrentPages, IsCurrentPage, is_no_list_length, page_at, is_caching, caches_after};
 
 use model_modes::Page;
 
-/// How many bytes a page has.
+/// How many bytes a page has that a list may set.
 pub const PAGE_BYTES: usize = 12;
 
-/// How many bytes the header before the pages has.
+/// How many bytes the page of capabilities has.
+pub const CAPABILITIES_BYTES: usize = 32;
+
+/// How many bytes the header before the pages has in a list.
 pub const HEADER_BYTES: usize = 8;
 
 /// The code that asks for all pages.
 const ALL_PAGES: u8 = 0x3f;
+
+/// The code of the page of capabilities.
+pub const CAPABILITIES: u8 = 0x2a;
 
 /// Bit 2 of byte 2 of the caching page: the write cache is on.
 const WCE: u8 = 0x04;
@@ -47,7 +52,7 @@ fn code_of(page: Page) -> u8
     current_page(false, page)[0]
 }
 
-/// The page with this code.
+/// The page with this code, of those that a list may set.
 pub fn page_with(wanted: u8) -> Option<Page>
     ensures { result ≡ page_with wanted }
 {
@@ -72,7 +77,14 @@ pub fn page_with(wanted: u8) -> Option<Page>
 pub fn is_page_code(wanted: u8) -> bool
     ensures { result ≡ is_page_code wanted }
 {
-    wanted == ALL_PAGES || page_with(wanted).is_some()
+    page_with(wanted).is_some() || asks_for_capabilities(wanted)
+}
+
+/// Whether this code asks for the page of capabilities.
+fn asks_for_capabilities(wanted: u8) -> bool
+    ensures { result ≡ asks_for_capabilities wanted }
+{
+    wanted == CAPABILITIES || wanted == ALL_PAGES
 }
 
 /// A page as this page control asks for it, from 0 to 2, where the write cache is on or off: 0 asks for the values in force,
@@ -87,15 +99,22 @@ pub fn page_by(control: u8, caches: bool, page: Page) -> [u8; PAGE_BYTES]
     }
 }
 
-/// The header before so many bytes of pages.
-pub fn header(pages: u8) -> [u8; HEADER_BYTES]
-    requires { pages < 250 }
-    ensures { result ≡ big_bytes 2 (6 + pages) ++ replicate 6 0 }
+/// The page of capabilities as this page control asks for it, from 0 to 2, with removal prevented or not.
+pub fn capabilities_by(control: u8, locked: bool) -> [u8; CAPABILITIES_BYTES]
+    ensures { result ≡ capabilities_by control locked }
 {
-    [0, 6 + pages, 0, 0, 0, 0, 0, 0]
+    let [reads, writes, loads, buffers] = match (control, locked) {
+        (1, _) => [0, 0, 0, 0],
+        (0, true) => [0x28, 0x20, 0x2b, 0x01],
+        _ => [0x28, 0x20, 0x29, 0x01],
+    };
+    [
+        0x2a, 0x1e, reads, writes, 0, 0, loads, 0, 0, 0, 0, 0, buffers, 0, 0, 0, 0, 0, 0, 0, 0, 0,
+        0, 0, 0, 0, 0, 0, 0, 0, 0, 0,
+    ]
 }
 
-/// Whether so many bytes are no list of pages: a list has none, or a header and up to two pages.
+/// Whether n bytes are no list of pages: a list has none, or a header and up to two pages.
 ///
 /// # Clauses
 ///

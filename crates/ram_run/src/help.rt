@@ -42,16 +42,18 @@ The script has one of these a line; words are parted by spaces, # is a comment:
   cdb HEX hex HEX        with exactly these data
 
 The commands, by the first byte of the command block:
-  00 TEST UNIT READY     23 READ FORMAT CAPACITIES  35 SYNCHRONIZE CACHE
-  03 REQUEST SENSE       25 READ CAPACITY(10)       46 GET CONFIGURATION
-  04 FORMAT UNIT         28 READ(10)                55 MODE SELECT(10)
-  12 INQUIRY             2a WRITE(10)               5a MODE SENSE(10)
-  1b START STOP UNIT     2e WRITE AND VERIFY(10)    a8 READ(12)
-  1e PREVENT ALLOW       2f VERIFY(10)              aa WRITE(12)
-     MEDIUM REMOVAL                                 ad READ DVD STRUCTURE
+  00 TEST UNIT READY     23 READ FORMAT CAPACITIES  4a GET EVENT STATUS
+  03 REQUEST SENSE       25 READ CAPACITY(10)          NOTIFICATION
+  04 FORMAT UNIT         28 READ(10)                51 READ DISC INFORMATION
+  12 INQUIRY             2a WRITE(10)               55 MODE SELECT(10)
+  1a MODE SENSE(6)       2e WRITE AND VERIFY(10)    5a MODE SENSE(10)
+  1b START STOP UNIT     2f VERIFY(10)              a8 READ(12)
+  1e PREVENT ALLOW       35 SYNCHRONIZE CACHE       aa WRITE(12)
+     MEDIUM REMOVAL      46 GET CONFIGURATION       ad READ DVD STRUCTURE
+                                                    b6 SET STREAMING
 After power the first command is told of it (check 6/29/00) in place of being
-done, unless it is INQUIRY, REQUEST SENSE or GET CONFIGURATION. A new disc has
-to be formatted before it has sectors, like this:
+done, unless it is INQUIRY, REQUEST SENSE, GET CONFIGURATION or GET EVENT STATUS
+NOTIFICATION. A new disc has to be formatted before it has sectors, like this:
   cdb 041100000000 hex 000000080000013000000800
 
 The exit status: 0 done, 1 a check said no, 2 other words than these, 3 a line
