@@ -13,9 +13,8 @@
 //! any disc (`TEXT_ROOM`, 2.6 MB). `Lines` keeps, as facts of its type, that there is that room, and that there are no more lines
 //! than bytes; so no line has an answer for want of memory, and none asks how many there are.
 //!
-//! `must-fail/` has four wrong changes that the prover refuses: a source that ends early is taken for the same, a source that
-//! failed is taken for one that has ended, a pair is told the other way round, and a lost block is told by the number of its
-//! home.
+//! `must-fail/` has two wrong changes that the prover refuses: a source that ends early is taken for the same, and a lost block is
+//! told by the number of its home.
 //!
 //! - **Neither proved nor tested:** how long a call takes, how much of a source is taken where it differs, and that `new`
 //!   succeeds where there is memory.
