@@ -171,7 +171,7 @@ def loops_in(folder: Path) -> Path:
 
 
 def loop_line(what: str, disc: Tuple[int, int], blocks: int, group: int, kept: int = 8) -> str:
-    """The line that asks for a loop over this many blocks, in groups, where this many are kept. Of the disc is
-    said how many blocks it has, and with which of them the loop begins."""
+    """The line that asks for a loop over n blocks, in groups, where this many are kept. Of the disc is said
+    how many blocks it has, and with which of them the loop begins."""
     total, first = disc
     return f"{what} {total} {first} {blocks} {group} {kept}\n"

@@ -57,8 +57,8 @@ def row(what: str, one: float, other: float, most: Optional[float] = None) -> No
 
 
 def scripts_of(write: bool, starts: Iterable[int], count: int = 1) -> List[str]:
-    """Scripts of commands that each write or read this many blocks, from each of these logical blocks on. Each
-    script has 64 blocks, or a few less."""
+    """Scripts of commands that each write or read n blocks, from each of these logical blocks on. Each script
+    has 64 blocks, or a few less."""
     lines = [write_command(16 * i, 16 * count, i) if write else read_command(16 * i, 16 * count)
              for i in starts]
     several = IN_PIECE // count

@@ -97,8 +97,7 @@ class Drive:
             self.renew()
 
     def serve_host(self, size: int) -> None:
-        """Makes room for a host's commands of this many bytes, and takes the attention, of which a host is not
-        told."""
+        """Makes room for commands of n bytes, and takes the attention, of which a host is not told."""
         self.make_room(size + LINE_ROOM)
         if self.has_attention:
             self.exchange(IS_READY)
