@@ -53,10 +53,11 @@
 //! still, and a write through the cache that leaves a block pending which it covers, whose old bytes would come over the new ones
 //! later.
 //!
-//! - **Only tested:** that calls end well where nothing is in the way, and how many uses they take: by the rows of
-//!   `ram_cache_tests`, which calls a `Cached` over a disc in memory: also cut at each use of a synchronisation, a tick and a
-//!   write, refused at each flush, with a disc that is lent, and by random calls beside a plain model.
-//! - **Neither proved nor tested:** how long a call takes, and that rooms are exchanged.
+//! - **Only tested:** that calls end well where nothing is in the way, and how many uses they take: by `tests/steps/cache.steps`,
+//!   scripts on the built program: also cut at each use of a synchronisation, a tick and a write, and refused at each flush; and
+//!   by random scripts beside the model (`checks/random`).
+//! - **Neither proved nor tested:** how long a call takes, and that rooms are exchanged. Calls on a disc that is lent are met by
+//!   clauses alone: the program lends its disc only to have blocks fail, and to arm wears and cuts.
 //! - **Not said by `Caching`:** that a call ends well. For a synchronisation, a tick and a write through the cache it follows
 //!   from the causes (`calls_that_flush_and_can_end_well_do` of `model_cache`).
 //! - **Not a law:** that the drive stands for something. A disc that is lent may have lost pending blocks; until the next call

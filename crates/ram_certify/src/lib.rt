@@ -14,8 +14,8 @@
 //! - the room of `found` is there afterwards: `room`.
 //! - `zero_block` gives a block of zeros, and asks for at most its bytes of a budget: `zeros`, `left`.
 //!
-//! Only tested: that this is the order of the uses (rows of `ram_volume_tests`: a format that is cut at each use, and what each
-//! block holds then).
+//! Only tested: that this is the order of the uses (`checks/steps`: a format that is cut at each use, and what each block holds
+//! then).
 //!
 //! Neither: speed.
 #![tactic(auto)]

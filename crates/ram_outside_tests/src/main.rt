@@ -1,5 +1,5 @@
-//! Calls sources, sinks, images and openers, in memory and over real files and streams: what a caller of each meets, which
-//! no contract says of the real ones. The rows stand in `stdin`, and what each must be answered in `stdout`.
+//! Calls sources, sinks, images and openers, in memory and over real files: what a caller of each meets, which no contract says of
+//! the real ones. The rows stand in `stdin`, and what each must be answered in `stdout`.
 //!
 //! A line that begins with `== ` is a title, and is printed as it is. Each other line is a row. The README lists them.
 #![tactic(auto)]
@@ -7,12 +7,10 @@
 mod files;
 mod images;
 mod streams;
-mod typed;
 
 use crate::files::{answer_few, answer_file};
 use crate::images::answer_image;
 use crate::streams::{answer_copy, answer_sink, answer_source};
-use crate::typed::{answer_all_typed, answer_typed};
 use std::io;
 use std::os::unix::fs::FileExt;
 use std::rt::Files;
@@ -28,7 +26,7 @@ fn main(rt: HostRuntime) -> io::Result<()> {
 }
 
 /// Adds the answer of a row, by its first word.
-fn answer_row<R: Print + Files + AllocGlobal>(
+fn answer_row<R: Files + AllocGlobal>(
     rt: &R,
     row: &str,
     answer: &mut String,
@@ -43,8 +41,6 @@ where
         "source" => answer_source(rt.alloc(), rest, answer)?,
         "sink" => answer_sink(rt.alloc(), rest, answer)?,
         "image" => answer_image(rt.alloc(), rest, answer)?,
-        "typed" => answer_typed(rt, rest, answer)?,
-        "all-typed" => answer_all_typed(rt.alloc(), rest, answer)?,
         "file" => answer_file(rt, rest, answer)?,
         "few-at-once" => answer_few(rt, rest, answer)?,
         _ => answer.push_str("no such row")?,

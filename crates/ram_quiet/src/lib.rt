@@ -12,7 +12,7 @@
 //! So no acknowledged replacement is undone before the next update. What a mount needs to find lists at all is in
 //! `model_survival`.
 //!
-//! One case is tested, by `ram_quiet_tests`.
+//! What a disc that keeps its lists shows is tested on the built program (`checks/steps`).
 #![tactic(auto)]
 
 mod making;

@@ -34,7 +34,7 @@
 //!
 //! # Laws of the definitions (functions of `model_drive`)
 //!
-//! - **Only tested:** nothing here; `ram_volume_tests` calls a `Volume` through both traits.
+//! - **Only tested:** nothing here; the program calls a `Volume` through both traits.
 //! - **Neither proved nor tested:** what `into` holds after a read that was not Good, and that `exchange_room` exchanges
 //!   anything, or which bytes a room has then. Both are left open on purpose.
 //! - **Trusted:** the toolchain. A definition that no clause cites says nothing; `make docs` lists who cites each.
