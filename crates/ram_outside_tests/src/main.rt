@@ -26,11 +26,7 @@ fn main(rt: HostRuntime) -> io::Result<()> {
 }
 
 /// Adds the answer of a row, by its first word.
-fn answer_row<R: Files + AllocGlobal>(
-    rt: &R,
-    row: &str,
-    answer: &mut String,
-) -> io::Result<()>
+fn answer_row<R: Files + AllocGlobal>(rt: &R, row: &str, answer: &mut String) -> io::Result<()>
 where
     R::File: FileExt,
 {
