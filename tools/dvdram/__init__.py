@@ -2,8 +2,8 @@
 
 `program` finds the program. `protocol` has a session of it, and `drive` a drive that lives on over several.
 `certificate` reads what it tells of an image, `lists` and `disc` say what each block is by that, and
-`pictures` shows it. `prepare` gets a disc ready to be served, `control` has the socket of
-a person, and `plugin` the calls of nbdkit. `ram_ctl` and `ram_map` are the commands of these names.
+`pictures` shows it. `prepare` gets a disc ready to be served, `control` has the socket of a person, and
+`plugin` the calls of nbdkit. `ram_ctl` and `ram_map` are the commands of these names.
 """
 from __future__ import annotations
 
