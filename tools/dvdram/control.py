@@ -13,7 +13,7 @@ from io import BufferedRWPair
 from threading import Lock, Thread
 from typing import Callable, List
 
-from . import Ended, NoDisc, NoLine, SocketInUse
+from . import Ended, NoDisc, NoLine, Refused, SocketInUse
 from .disc import Disc, State
 from .drive import Drive
 from .protocol import LINE_LIMIT
@@ -92,7 +92,7 @@ def answer_line(drive: Drive, line: str) -> list[str]:
         if words == "cut now":
             return [drive.cut_now()]
         return drive.say(line)
-    except (NoLine, Ended, NoDisc) as error:
+    except (NoLine, Ended, NoDisc, Refused) as error:
         return [str(error)]
     except OSError as error:
         return [f"{drive.image}: {error.strerror}"]
