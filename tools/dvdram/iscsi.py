@@ -19,7 +19,7 @@ from .login import NAME, NO_ROOM, NO_SERVICE, Agreed, keys_of, text_of
 from .pdu import FINAL, NO_TAG, Channel, Code, Gone, Pdu
 from .unit import Reply, Unit, bytes_taken, sense_of
 
-PATIENCE = 5.0  # seconds that a login waits for the end of another session
+PATIENCE, LONG_PATIENCE = 0.2, 30.0  # seconds in which another session may end, if its initiator is gone
 CHECK_CONDITION = 2
 READS, WRITES = 0x40, 0x20  # flags of a command
 HAS_STATUS, OVER, UNDER = 0x01, 0x04, 0x02  # flags of its answer
@@ -79,7 +79,8 @@ class Target:
         with self.place:
             if self.host and self.host.name == session.name:
                 self.host.channel.close()
-            if not self.place.wait_for(lambda: not self.host, PATIENCE):
+            is_ending = self.host and self.host.channel.is_gone()
+            if not self.place.wait_for(lambda: not self.host, LONG_PATIENCE if is_ending else PATIENCE):
                 return False
             self.host = session
             return True
@@ -252,8 +253,9 @@ class Session:
         reply = self.target.execute(pdu, bytes(task.data[:task.due]))
         moved = bytes_taken(pdu.head[32:48]) if pdu.flags & WRITES else len(reply.data)
         flags = OVER if moved > room else UNDER if moved < room else 0
-        if reply.data and pdu.flags & READS:
-            self.show(pdu, reply.data[:room], flags, abs(moved - room))
+        data = reply.data[:room] if pdu.flags & READS else b""
+        if data:
+            self.show(pdu, data, flags, abs(moved - room))
         else:
             self.respond(pdu, reply, flags, abs(moved - room))
 

@@ -2,6 +2,7 @@
 are no digests."""
 from __future__ import annotations
 
+import select
 import socket
 from contextlib import suppress
 from dataclasses import dataclass
@@ -110,6 +111,12 @@ class Channel:
             head[at:at + len(value)] = value
         self.status_number += has_status
         self.client.sendall(bytes(head) + data + bytes(-len(data) % 4))
+
+    def is_gone(self) -> bool:
+        """Whether the initiator sends nothing more, or the connection was ended here."""
+        poll = select.poll()
+        poll.register(self.client, select.POLLRDHUP)
+        return bool(poll.poll(0))
 
     def close(self) -> None:
         """Ends the connection, also under one who waits on it."""

@@ -1,4 +1,5 @@
-"""The command dvdram-iscsi: it gets a disc ready, and serves the drive to one iSCSI initiator of this machine."""
+"""The command dvdram-iscsi: it gets a disc ready, and serves the drive over iSCSI to one initiator of this
+machine."""
 from __future__ import annotations
 
 import argparse
