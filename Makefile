@@ -7,8 +7,8 @@ DESTDIR =
 INSTALL = install
 
 program = crates/ram_drive/out/ram_drive
-commands = nbdkit-dvdram-plugin ram-ctl ram-map
-pages = ram_drive.1 nbdkit-dvdram-plugin.1 ram-map.1
+commands = dvdram-iscsi nbdkit-dvdram-plugin ram-ctl ram-map
+pages = ram_drive.1 dvdram-iscsi.1 nbdkit-dvdram-plugin.1 ram-map.1
 bin = $(DESTDIR)$(PREFIX)/bin
 lib = $(DESTDIR)$(PREFIX)/lib/ram_drive
 man1 = $(DESTDIR)$(PREFIX)/share/man/man1

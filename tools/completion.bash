@@ -1,4 +1,4 @@
-# Completes the words of ram_drive, ram-map, ram-ctl and nbdkit-dvdram-plugin in bash.
+# Completes the words of ram_drive, ram-map, ram-ctl, nbdkit-dvdram-plugin and dvdram-iscsi in bash.
 
 _ram_drive() {
     case $COMP_CWORD in
@@ -25,15 +25,24 @@ _ram_ctl() {
 }
 
 _nbdkit_dvdram_plugin() {
-    local name=$3
-    [[ $2 != '=' ]] || name=${COMP_WORDS[COMP_CWORD - 1]}
+    _dvdram_parameters "$2" "$3" 'image layout press format force program control poweroff'
+}
+
+_dvdram_iscsi() {
+    _dvdram_parameters "$2" "$3" 'image layout press format force program control poweroff port log'
+}
+
+# Completes a parameter: the word so far, the word before it, and the names that there are.
+_dvdram_parameters() {
+    local name=$2
+    [[ $1 != '=' ]] || name=${COMP_WORDS[COMP_CWORD - 1]}
     [[ $name != '=' ]] || name=${COMP_WORDS[COMP_CWORD - 2]}
     case $name in
-        layout) mapfile -t COMPREPLY < <(compgen -W 'run groups' -- "${2#=}") ;;
-        format | force) mapfile -t COMPREPLY < <(compgen -W 'yes no' -- "${2#=}") ;;
-        poweroff) mapfile -t COMPREPLY < <(compgen -W 'stay again exit' -- "${2#=}") ;;
-        image | program | control) mapfile -t COMPREPLY < <(compgen -f -- "${2#=}") ;;
-        *) mapfile -t COMPREPLY < <(compgen -S= -W 'image layout press format force program control poweroff' -- "$2"); compopt -o nospace ;;
+        layout) mapfile -t COMPREPLY < <(compgen -W 'run groups' -- "${1#=}") ;;
+        format | force) mapfile -t COMPREPLY < <(compgen -W 'yes no' -- "${1#=}") ;;
+        poweroff) mapfile -t COMPREPLY < <(compgen -W 'stay again exit' -- "${1#=}") ;;
+        image | program | control | log) mapfile -t COMPREPLY < <(compgen -f -- "${1#=}") ;;
+        *) mapfile -t COMPREPLY < <(compgen -S= -W "$3" -- "$1"); compopt -o nospace ;;
     esac
 }
 
@@ -41,3 +50,4 @@ complete -F _ram_drive ram_drive
 complete -F _ram_map ram-map
 complete -F _ram_ctl ram-ctl
 complete -F _nbdkit_dvdram_plugin nbdkit-dvdram-plugin
+complete -F _dvdram_iscsi dvdram-iscsi

@@ -64,6 +64,8 @@ def is_there(tool: str) -> bool:
     """Whether this command can be used, or what this word stands for."""
     if tool == "fuse":
         return is_there("nbdfuse") and is_there("nbdkit") and can_mount()
+    if tool == "qemu-iscsi":
+        return is_there("qemu-img") and "Unknown protocol" not in done("qemu-img", "info", "iscsi:").stdout
     if tool == "nbdkit-plugin-python":
         return is_there("nbdkit") and done("nbdkit", "--dump-plugin", "python").returncode == 0
     return shutil.which(tool, path=os.environ["PATH"] + ":/usr/sbin:/sbin") is not None
@@ -194,12 +196,27 @@ class Mount:
         self.process = self.mounted()
 
 
-class Server:
+class Control:
+    """A client of a control socket."""
+
+    def __init__(self, path: Path) -> None:
+        self.control = path
+
+    def tell(self, *lines: str) -> list[str]:
+        """Sends lines to the control socket, and gives the answers."""
+        with socket.socket(socket.AF_UNIX, socket.SOCK_STREAM) as connection:
+            connection.connect(str(self.control))
+            with connection.makefile("rwb") as channel:
+                return [row for line in lines for row in exchange(channel, line)]
+
+
+class Server(Control):
     """A drive that nbdkit serves on a socket in the present folder, with a control socket."""
 
     def __init__(self, *words: str, options: tuple[str, ...] = ()) -> None:
+        super().__init__(Path("disk.ctl"))
         self.log = open("server.log", "w+", encoding="utf-8")
-        self.socket, self.control, self.number = Path("disk.sock"), Path("disk.ctl"), Path("disk.pid")
+        self.socket, self.number = Path("disk.sock"), Path("disk.pid")
         self.socket.unlink(missing_ok=True)
         self.number.unlink(missing_ok=True)
         self.uri = f"nbd+unix:///?socket={self.socket.absolute()}"
@@ -230,13 +247,6 @@ class Server:
         """What nbdkit told."""
         self.log.seek(0)
         return self.log.read()
-
-    def tell(self, *lines: str) -> list[str]:
-        """Sends lines to the control socket, and gives the answers."""
-        with socket.socket(socket.AF_UNIX, socket.SOCK_STREAM) as connection:
-            connection.connect(str(self.control))
-            with connection.makefile("rwb") as channel:
-                return [row for line in lines for row in exchange(channel, line)]
 
     def io(self, *commands: str) -> list[str]:
         """What qemu-io tells of these commands, without its times."""

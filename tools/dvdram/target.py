@@ -48,6 +48,14 @@ def parameters_of(words: list[str]) -> TargetParameters:
     return parameters
 
 
+def server_at(port: str) -> socket.socket:
+    """A socket that listens at this port; at one that is free for 0."""
+    try:
+        return socket.create_server((HOST, int(port)))
+    except OSError as error:
+        raise Wrong(f"port={port}: {error.strerror}") from None
+
+
 def make_target(parameters: TargetParameters, server: socket.socket, stack: ExitStack) -> Target:
     """A target over the disc, which is made ready, with the control socket beside it."""
     program = find_program(parameters.program)
@@ -102,7 +110,7 @@ def main() -> int:
     try:
         parameters = parameters_of(parser.parse_args().words)
         with ExitStack() as stack:
-            server = stack.enter_context(socket.create_server((HOST, int(parameters.port))))
+            server = stack.enter_context(server_at(parameters.port))
             target = make_target(parameters, server, stack)
             print(f"iscsi://{HOST}:{server.getsockname()[1]}/{NAME}/0", flush=True)
             accept(server, target)
