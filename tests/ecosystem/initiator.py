@@ -24,12 +24,13 @@ class Answer:
 class Initiator:
     """A session, or the status with which its login was refused."""
 
-    def __init__(self, port: int, name: str = "iqn.2026-11.example.tests:one", *, kind: str = "Normal") -> None:
+    def __init__(self, port: int, name: str = "one", *, kind: str = "Normal") -> None:
         self.socket = socket.create_connection(("127.0.0.1", port))
         self.socket.settimeout(60)
         self.command_number = self.tag = 1
-        keys = (f"InitiatorName={name}", f"SessionType={kind}", f"TargetName={TARGET}", "AuthMethod=None",
-                "HeaderDigest=CRC32C,None", f"MaxBurstLength={BURST}", f"MaxRecvDataSegmentLength={SEGMENT}")
+        keys = (f"InitiatorName=iqn.2026-11.example.tests:{name}", f"SessionType={kind}",
+                f"TargetName={TARGET}", "AuthMethod=None", "HeaderDigest=CRC32C,None",
+                f"MaxBurstLength={BURST}", f"MaxRecvDataSegmentLength={SEGMENT}")
         self.send(0x43, 0x87, {24: pack(">I", 1)}, "".join(f"{key}\0" for key in keys).encode())
         head, data = self.take()
         self.status = unpack_from(">H", head, 36)[0]
@@ -70,7 +71,8 @@ class Initiator:
         self.send(0x44, 0x80, {24: pack(">I", self.command_number), 20: b"\xff" * 4}, keys)
         return self.take()[1]
 
-    def do(self, block: str, data: bytes = b"", *, reads: int = 0, immediate: int = 0, lun: int = 0) -> Answer:
+    def do(self, block: str, data: bytes = b"", *, reads: int = 0, immediate: int = 0,
+           lun: int = 0) -> Answer:
         """Does a command with these data, some of which go with it, or one that reads so many bytes."""
         self.tag += 1
         numbers = pack(">III", reads or len(data), self.command_number, 0)

@@ -100,6 +100,13 @@ def run_script(image: str | Path, script: str, word: str = "run") -> list[str]:
                           timeout=SECONDS, check=False).stdout.decode().splitlines()
 
 
+def qemu_io(uri: str, *commands: str) -> list[str]:
+    """What qemu-io tells of these commands, without its times."""
+    words = [word for command in commands for word in ("-c", command)]
+    lines = done("qemu-io", "-f", "raw", *words, uri).stdout.splitlines()
+    return [line for line in lines if "ops;" not in line]
+
+
 def wait_until(holds: Callable[[], bool], what: str) -> None:
     """Waits until this holds."""
     end = time.monotonic() + SECONDS
@@ -249,7 +256,4 @@ class Server(Control):
         return self.log.read()
 
     def io(self, *commands: str) -> list[str]:
-        """What qemu-io tells of these commands, without its times."""
-        words = [word for command in commands for word in ("-c", command)]
-        lines = done("qemu-io", "-f", "raw", *words, self.uri).stdout.splitlines()
-        return [line for line in lines if "ops;" not in line]
+        return qemu_io(self.uri, *commands)

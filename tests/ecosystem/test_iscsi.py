@@ -11,7 +11,8 @@ from dvdram import Refused
 from dvdram.drive import FORMAT
 from dvdram.unit import CACHE_ON, HostDrive, Unit
 from initiator import TARGET, Initiator
-from support import PROGRAM, TOOLS, Control, FolderTest, done, needs, random_bytes, run_script, wait_until
+from support import (PROGRAM, TOOLS, Control, FolderTest, done, needs, qemu_io, random_bytes, run_script,
+                     wait_until)
 
 NEW = "press=1,1,4", "format=yes"
 LARGE = "press=2,10,24", "format=yes"
@@ -19,8 +20,8 @@ READY, CAPACITY, EJECT = "000000000000", "25000000000000000000", "1b0000000200"
 REFUSED = (  # parameters, and how the line ends that tells of them
     ("image=disc.img", "disc.img is not there: press=ZONES,SCALE,SPARES makes it"),
     ("image=disc.img press=1,1,4 port=65536", "port=65536: it is a number up to 65535"),
-    ("image=disc.img speed=4", "speed is no parameter: there are image, layout, press, format, force, program, "
-                               "control, poweroff, port, log"),
+    ("image=disc.img speed=4", "speed is no parameter: there are image, layout, press, format, force, "
+                               "program, control, poweroff, port, log"),
     ("port=0", "image=FILE is missing"),
 )
 SESSIONS = "the target's: it has one session, and these tests want a second"
@@ -38,6 +39,7 @@ class Served(Control):
 
     def __init__(self, *words: str) -> None:
         super().__init__(Path("disc.ctl"))
+        self.uri, self.port = "", 0
         self.log = open("target.log", "w+", encoding="utf-8")
         self.process = subprocess.Popen(
             [TOOLS / "dvdram-iscsi", "port=0", "image=disc.img", f"control={self.control}",
@@ -85,13 +87,14 @@ class Target(FolderTest):
             self.assertTrue(host.do("2800000000050000c800", reads=len(data)).data == data, "what comes back")
             self.assertEqual(host.do("2a00000000050000c800", data[:2048]).sense, "5/1a/00", "data missing")
             self.assertEqual(host.do("28000000013000000100", reads=2048).sense, "5/21/00")
-            self.assertEqual(host.do("2a000000010000003100", bytes(49 * 2048)).sense, "5/21/00", "a long write")
+            self.assertEqual(host.do("2a000000010000003100", bytes(49 * 2048)).sense, "5/21/00", "too far")
             self.assertEqual(host.do("030000001200", reads=18).data[2], 0, "sense that is told is not kept")
             self.assertEqual(host.do(CAPACITY, reads=4).residual, (4, 4), "four bytes too many")
             self.assertEqual(host.do(CAPACITY, reads=12).residual, (2, 4), "four bytes missing")
             self.assertEqual(host.do("ff").sense, "5/20/00")
             self.assertEqual(host.do(READY, lun=1).sense, "5/25/00")
-            self.assertEqual(host.do("a00000000000000000100000", reads=16).data, bytes((0, 0, 0, 8)) + bytes(12))
+            units = host.do("a00000000000000000100000", reads=16).data
+            self.assertEqual(units, bytes((0, 0, 0, 8)) + bytes(12), "unit 0 alone")
 
     def test_power(self) -> None:
         """A power cut ends the session; no login without power, and then the attention and the torn block."""
@@ -132,7 +135,7 @@ class Target(FolderTest):
             host.do(READY)
             self.assertEqual(host.do("1e0000000100").status, 0)
             self.assertEqual(host.do(EJECT).sense, "5/53/02", "removal is prevented")
-            self.assertEqual(Initiator(served.port, "iqn.2026-11.example.tests:two").status, 0x0302)
+            self.assertEqual(Initiator(served.port, "two").status, 0x0302)
             seeker = Initiator(served.port, kind="Discovery")
             self.assertIn(f"TargetName={TARGET}\0TargetAddress=127.0.0.1:{served.port},1".encode(),
                           seeker.text(b"SendTargets=All\0"))
@@ -145,7 +148,7 @@ class Target(FolderTest):
             self.assertEqual(again.do(EJECT).status, 0, "removal is allowed")
             self.assertEqual(again.do(CAPACITY, reads=8).sense, "2/3a/00")
             again.close()
-            other = Initiator(served.port, "iqn.2026-11.example.tests:two")
+            other = Initiator(served.port, "two")
             self.addCleanup(other.close)
             self.assertEqual(other.status, 0, "the place of one that is gone")
 
@@ -244,9 +247,8 @@ class ByOthers(FolderTest):
     def test_qemu(self) -> None:
         """QEMU's block layer writes and reads by long commands, over a block that dies, and a whole image."""
         with Served(*LARGE) as served:
-            words = "write -P 7 6k 400k", "write -f -P 9 1M 4M", "flush", "read -P 7 6k 400k", "read -P 9 1M 4M"
-            told = done("qemu-io", "-f", "raw", *(word for line in words for word in ("-c", line)), served.uri)
-            self.assertEqual([line for line in told.stdout.splitlines() if "ops;" not in line], [
+            self.assertEqual(qemu_io(served.uri, "write -P 7 6k 400k", "write -f -P 9 1M 4M", "flush",
+                                     "read -P 7 6k 400k", "read -P 9 1M 4M"), [
                 f"{verb} {size}/{size} bytes at offset {at}" for verb, size, at in (
                     ("wrote", 409600, 6144), ("wrote", 4194304, 1048576),
                     ("read", 409600, 6144), ("read", 4194304, 1048576))])
