@@ -1,10 +1,11 @@
 """The drive as a disk: what speaks to the program, reads its images, and serves it to others.
 
-`program` finds the program. `protocol` has a session of it, and `drive` a drive that lives on over several.
-`certificate` reads what it tells of an image, `lists` and `disc` say what each block is by that, and
-`pictures` shows it. `prepare` gets a disc ready to be served, `control` has the socket of a person, and
-`plugin` the calls of nbdkit. `unit` is the drive to a host's own drivers, `iscsi` its target, with `login` and
-`pdu` below it, and `target` the command dvdram-iscsi. `ram_ctl` and `ram_map` are the commands of these names.
+`program` finds the program. `protocol` has a session of it, and `drive` a drive that lives on over
+several. `certificate` reads what it tells of an image, `lists` and `disc` say what each block is by that,
+and `pictures` shows it. `prepare` gets a disc ready to be served, `control` has the socket of a person,
+and `plugin` the calls of nbdkit. `unit` is the drive to a host's own drivers, `iscsi` its target, with
+`login` and `pdu` below it, and `target` the command dvdram-iscsi. `ram_ctl` and `ram_map` are the
+commands of these names.
 """
 from __future__ import annotations
 
