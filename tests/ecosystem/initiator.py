@@ -7,7 +7,7 @@ from struct import pack, unpack_from
 
 TARGET = "iqn.2026-11.example.gornchik:dvdram"
 WRITES, READS = 0xA0, 0xC0  # with the bit that says that no unsolicited data follow
-BURST, SEGMENT = 65_536, 8192
+BURST, SEGMENT = 65_536, 10_000  # a burst is no row of whole segments
 
 
 @dataclass
@@ -24,14 +24,16 @@ class Answer:
 class Initiator:
     """A session, or the status with which its login was refused."""
 
-    def __init__(self, port: int, name: str = "one", *, kind: str = "Normal") -> None:
+    def __init__(self, port: int, name: str = "one", *, kind: str = "Normal", target: str = TARGET) -> None:
         self.socket = socket.create_connection(("127.0.0.1", port))
         self.socket.settimeout(60)
         self.command_number = self.tag = 1
-        keys = (f"InitiatorName=iqn.2026-11.example.tests:{name}", f"SessionType={kind}",
-                f"TargetName={TARGET}", "AuthMethod=None", "HeaderDigest=CRC32C,None",
-                f"MaxBurstLength={BURST}", f"MaxRecvDataSegmentLength={SEGMENT}")
-        self.send(0x43, 0x87, {24: pack(">I", 1)}, "".join(f"{key}\0" for key in keys).encode())
+        self.skipped = 0  # bytes of the data that are asked for that are left out
+        keys = {"InitiatorName": name and f"iqn.2026-11.example.tests:{name}", "TargetName": target,
+                "SessionType": kind, "AuthMethod": "None", "HeaderDigest": "CRC32C,None",
+                "MaxBurstLength": str(BURST), "MaxRecvDataSegmentLength": str(SEGMENT)}
+        text = "".join(f"{key}={value}\0" for key, value in keys.items() if value)
+        self.send(0x43, 0x87, {24: pack(">I", 1)}, text.encode())
         head, data = self.take()
         self.status = unpack_from(">H", head, 36)[0]
         self.keys = data.decode().split("\0")[:-1]
@@ -79,7 +81,7 @@ class Initiator:
         self.command_number += 1
         place = {8: pack(">BB", 0, lun), 20: numbers, 32: bytes.fromhex(block)}
         self.send(1, READS if reads else WRITES if data else 0x80, place, data[:immediate])
-        shown = b""
+        shown, in_burst = b"", 0
         while True:
             head, part = self.take()
             if head[0] == 0x31:
@@ -87,6 +89,9 @@ class Initiator:
             elif head[0] == 0x25:
                 assert unpack_from(">I", head, 40)[0] == len(shown), "the place of the data"
                 shown += part
+                in_burst += len(part)
+                assert len(part) <= SEGMENT and in_burst <= BURST, "too many data"
+                in_burst = 0 if head[1] & 0x80 else in_burst
                 if head[1] & 1:
                     return Answer(head[3], "", shown, residual_of(head))
             else:
@@ -96,6 +101,7 @@ class Initiator:
     def give(self, head: bytes, data: bytes) -> None:
         """Sends the data that the target asks for."""
         at, size = unpack_from(">II", head, 40)
+        at += self.skipped
         assert size <= BURST, "more than a burst is asked for"
         for count, start in enumerate(range(at, at + size, SEGMENT)):
             end = min(start + SEGMENT, at + size)

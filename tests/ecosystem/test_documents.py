@@ -89,13 +89,15 @@ class Documents(FolderTest):
         self.assertEqual(told.returncode, 0, told.stdout)
         place = folder / "opt" / "drive"
         for name in ("man/man1/ram_drive.1", "man/man1/nbdkit-dvdram-plugin.1", "man/man1/ram-map.1",
-                     "bash-completion/completions/ram-ctl"):
+                     "man/man1/dvdram-iscsi.1", "bash-completion/completions/ram-ctl"):
             self.assertTrue((place / "share" / name).is_file(), name)
         plugin = place / "bin" / "nbdkit-dvdram-plugin"
         size = done(plugin, "-U", "-", "image=disc.img", "press=1,1,4", "format=yes",
                     "--run", 'nbdinfo --size "$uri"').stdout
         self.assertEqual(size, "622592\n")
         self.assertIn("304 sectors", done(place / "bin" / "ram-map", "disc.img").stdout)
+        refusal = done(place / "bin" / "dvdram-iscsi", "image=none.img").stdout
+        self.assertIn("none.img is not there", refusal)
         self.assertEqual(done(*words, "uninstall").returncode, 0)
         self.assertEqual([str(path) for path in folder.rglob("*") if not path.is_dir()], [],
                          "files that are left")

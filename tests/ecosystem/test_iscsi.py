@@ -1,18 +1,22 @@
 """The drive over iSCSI: what an initiator sees of it, and what libiscsi and QEMU make of it."""
 from __future__ import annotations
 
+import os
 import random
 import re
+import signal
 import socket
 import subprocess
 from pathlib import Path
+from struct import pack
+from unittest import mock
 
 from dvdram import Refused
-from dvdram.drive import FORMAT
+from dvdram.drive import FORMAT, RENEW_AT
 from dvdram.unit import CACHE_ON, HostDrive, Unit
 from initiator import TARGET, Initiator
-from support import (PROGRAM, TOOLS, Control, FolderTest, done, needs, qemu_io, random_bytes, run_script,
-                     wait_until)
+from support import (PROGRAM, TOOLS, Control, FolderTest, children_of, done, needs, qemu_io, random_bytes,
+                     run_script, wait_until)
 
 NEW = "press=1,1,4", "format=yes"
 LARGE = "press=2,10,24", "format=yes"
@@ -152,6 +156,63 @@ class Target(FolderTest):
             self.addCleanup(other.close)
             self.assertEqual(other.status, 0, "the place of one that is gone")
 
+    def test_refused(self) -> None:
+        """A login for another target is refused, and so is one without a name; data out of order end a
+        command."""
+        with Served(*NEW) as served:
+            self.assertEqual(Initiator(served.port, target=f"{TARGET}2").status, 0x0203)
+            self.assertEqual(Initiator(served.port, target="").status, 0x0207)
+            self.assertEqual(Initiator(served.port, "").status, 0x0207)
+            host = Initiator(served.port)
+            self.addCleanup(host.close)
+            host.do(READY)
+            host.skipped = 1
+            self.assertEqual(host.do("2a000000000000001000", bytes(32768)).sense, "b/0c/0d")
+            host.skipped = 0
+            self.assertEqual(host.do("2a000000000000001000", bytes(32768)).status, 0)
+            host.command_number += 40
+            host.send(1, 0x80, {24: pack(">I", host.command_number)})
+            host.command_number -= 40
+            self.assertEqual(host.do(READY).status, 0, "a command outside the window is dropped")
+            host.command_number += 1
+            with self.assertRaises(ConnectionError):
+                host.do(READY)
+
+    def test_end(self) -> None:
+        """A target that is ended has the drive write what waits."""
+        block = b"\x5a" * 32768
+        with Served(*NEW) as served:
+            host = Initiator(served.port)
+            host.do(READY)
+            self.assertEqual(served.tell(CACHE_ON), ["good"])
+            self.assertEqual(host.do("2a000000000000001000", block).status, 0)
+            host.close()
+        with Served() as served:
+            host = Initiator(served.port)
+            self.addCleanup(host.close)
+            host.do(READY)
+            self.assertEqual(host.do("28000000000000001000", reads=32768).data, block)
+
+    def test_accident(self) -> None:
+        """The program is killed: the session ends, and the next one is told that the power came on."""
+        with Served(*NEW, "log=commands.log") as served:
+            host = Initiator(served.port)
+            host.do(READY)
+            self.assertEqual(host.do("2a000000000000001000", b"\x5a" * 32768).status, 0)
+            for program in children_of(served.process.pid):
+                os.kill(program, signal.SIGKILL)
+            with self.assertRaises(ConnectionError):
+                host.do(READY)
+            host.close()
+            host = Initiator(served.port)
+            self.addCleanup(host.close)
+            self.assertEqual(host.do(READY).sense, "6/29/00")
+            self.assertEqual(host.do("28000000000000000100", reads=2048).data, b"\x5a" * 2048)
+            rows = [row.split(maxsplit=1)[1] for row in Path("commands.log").read_text("ascii").splitlines()]
+        self.assertEqual(rows, [f"{block:0<32} {counts}" for block, counts in (
+            (READY, "0 0 check 6/29/00"), ("2a000000000000001000", "32768 0 good"),
+            (READY, "0 0 check 6/29/00"), ("28000000000000000100", "0 2048 good"))])
+
     def test_layout(self) -> None:
         """The word `groups` serves a disc with a group of spares in each zone."""
         with Served("layout=groups", "press=2,1,4", "format=yes") as served:
@@ -174,10 +235,10 @@ class Target(FolderTest):
         self.assertIn(f"port={port}: ", told.stdout)
 
 
-class Renewals(FolderTest):
-    """Sessions of the program that are renewed under a host."""
+class Units(FolderTest):
+    """The unit without its target: long commands, what is synced, and sessions that are renewed."""
 
-    def unit_over(self, renew_at: int) -> Unit:
+    def unit_over(self, renew_at: int = RENEW_AT) -> Unit:
         """The unit of a new disc, which is formatted. The attention was told."""
         run_script("disc.img", f"press 1 1 4\npower\ncdb {READY}\n{FORMAT}\n")
         drive = HostDrive([str(PROGRAM)], "disc.img", renew_at=renew_at)
@@ -190,6 +251,31 @@ class Renewals(FolderTest):
     @staticmethod
     def answer(unit: Unit, block: str, data: bytes = b"") -> str:
         return unit.execute(bytes(8), bytes.fromhex(block), data).answer
+
+    def test_long_writes(self) -> None:
+        """One that reaches too far changes nothing; one of many blocks goes through the write cache."""
+        unit = self.unit_over()
+        unit.drive.say(CACHE_ON)
+        self.assertEqual(self.answer(unit, "2a000000010000003100", b"\x11" * 49 * 2048), "check 5/21/00")
+        unit.drive.say("cdb 35000000000000000000")
+        self.assertEqual(self.answer(unit, "2a000000000000011000", b"\x22" * 272 * 2048), "good")
+        self.assertEqual(self.answer(unit, "2a000000011000001200", b"\x33" * 18 * 2048), "good")
+        unit.drive.cut_now()
+        self.assertEqual(unit.drive.say("power"), ["ready 304"])
+        unit.drive.say(f"cdb {READY}")
+        shown = unit.execute(bytes(8), bytes.fromhex("28000000000000013000"), b"").data
+        self.assertEqual([value for value in (0, 0x11, 0x22, 0x33) if value in shown], [0, 0x22])
+        self.assertEqual(shown.count(b"\x22"), 272 * 2048)
+
+    def test_synced(self) -> None:
+        """The image is synced by FUA and SYNCHRONIZE CACHE, where they are good, and by nothing else."""
+        unit = self.unit_over()
+        for block, due in (("2a000000000000001000", 0), ("2a080000000000001000", 1),
+                           ("aa0800000000000000100000", 1), ("35000000000000000000", 1),
+                           ("28080000000000001000", 0), ("2a080000ffff00001000", 0)):
+            with self.subTest(block), mock.patch("os.fdatasync") as sync:
+                self.answer(unit, block, bytes(32768) if block.startswith(("2a", "aa")) else b"")
+                self.assertEqual(sync.call_count, due)
 
     def test_hidden(self) -> None:
         """A host is told no attention of a renewal; the cache, the tray and the prevention stay."""
@@ -209,7 +295,10 @@ class Renewals(FolderTest):
         unit.drive.say("power")
         unit.drive.renew()
         self.assertEqual(self.answer(unit, READY), "check 6/29/00", "an attention that was due stays so")
-        self.assertEqual(self.answer(unit, READY), "good")
+        unit.drive.say("power")
+        self.assertEqual(unit.drive.say("cdb 030000001200")[1][:14], "data 18 700006")
+        unit.drive.renew()
+        self.assertEqual(self.answer(unit, READY), "good", "an attention that REQUEST SENSE reported")
 
     def test_nothing_lost(self) -> None:
         """Where a block waits and cannot be written, a session is not renewed: it would be lost."""
