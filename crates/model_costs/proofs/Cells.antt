@@ -29,7 +29,8 @@ use Rattle.model_drive.specs.Expands.{ExpandCause}
 use Rattle.model_drive.specs.FullFormats.{FullCause}
 use Rattle.model_drive.specs.Rewriting.{RewriteCause}
 use Rattle.model_drive.specs.Formats.{FormatCauseBy, FormatCause}
-use Rattle.model_costs.specs.Costs.{CostsOneCell, GoodStay}
+use Rattle.model_costs.specs.Costs.{CostsOneCell}
+use Rattle.model_costs.proofs.GoodStay.{GoodStay}
 
 pub good_or_dead : (cell : Cell) → IsGood cell → IsGoodOrDead cell
 good_or_dead Blank good = absurd good

@@ -24,7 +24,8 @@ use Rattle.ram_image.specs.Medium.{bytes_in}
 use Rattle.ram_audit.specs.declared.lines.Lines.{Lines}
 use Rattle.ram_audit.specs.Leaving.{IsLeft, LooksOn, FailsLooking}
 use Rattle.ram_audit.proofs.Leaving.{looks_then, fails_then}
-use Rattle.ram_audit.specs.Telling.{Adds, AreLines, cells_in_image, StateSays, AddsCopy, AddsCopies, AddsHome, AddsLost, cells_upto}
+use Rattle.ram_audit.specs.Telling.{Adds, AreLines, cells_in_image, StateSays, AddsCopy, AddsCopies, AddsHome, AddsLost}
+use Rattle.ram_audit.proofs.CellsUpTo.{cells_upto}
 
 -- ---- what is added
 

@@ -1,9 +1,8 @@
 -- Lines of a certificate as they are written, and which lines of a disc its parts add: for the writer. (This project's own, as all
 -- here.)
-use Rattle.std.specs.Prelude.{◌≡◌, ℕ, zero, suc, ◌*◌, ◌⊎◌, if◌then◌else◌, Bool, true, false, Option, IfSome, List, [], ◌∷◌, ◌++◌, length}
+use Rattle.std.specs.Prelude.{◌≡◌, ℕ, ◌*◌, ◌⊎◌, if◌then◌else◌, Bool, true, false, Option, IfSome, List, [], ◌∷◌, ◌++◌, length}
 use Rattle.std.specs.List.{flat_map, range_with_len}
 use Rattle.model_geometry.specs.Geometry.{Shape, total}
-use Rattle.model_lists.specs.declared.versions.Version.{Version}
 use Rattle.model_lists.specs.Values.{IsLawfulDds, IsLawfulSdl}
 use Rattle.model_medium.specs.Cells.{Cell, Good, Blank, Torn, Dead, IsGood, cell_at}
 use Rattle.model_image.specs.Cells.{cells_of}
@@ -18,7 +17,7 @@ use Rattle.model_audit.specs.declared.lines.CertificateLine.TheVariants as told
 use Rattle.model_audit.specs.Text.{text_of}
 use Rattle.ram_zones.specs.declared.list_kind.ListKind.{ListKind}
 use Rattle.ram_zones.specs.declared.list_kind.ListKind.TheVariants as kinds
-use Rattle.model_audit.specs.Certificate.{ListPart, Structure, First, Second, AreCopyLines, area_cells, is_whole, lost_home_line, closed, head_lines, list_lines, list_cells, lost_lines, TellsLists, IsCertificate}
+use Rattle.model_audit.specs.Certificate.{ListPart, Structure, First, Second, AreCopyLines, is_whole, lost_home_line, TellsLists, IsCertificate}
 use Rattle.ram_lists.specs.Chosen.{AreChosenIn}
 use Rattle.ram_lists.specs.declared.choosing.FoundLists.{FoundLists}
 use Rattle.ram_lists.specs.declared.choosing.FoundLists.TheVariants as founds
@@ -101,11 +100,6 @@ pub record AddsCopies (old new : Lines) (shape : Shape) (bytes : Option (List �
   pub copies : List CertificateLine
   pub adds : Adds old new copies
   pub are : IfSome bytes (λ held. AreCopyLines (cells_in_image shape held) lists cells copies)
-
--- the cells of the copies of the first n areas
-abbrev pub cells_upto : Shape → Version → (areas : ℕ) → List (ℕ × ListPart)
-cells_upto shape version zero = []
-cells_upto shape version (suc areas) = cells_upto shape version areas ++ area_cells shape version (suc areas)
 
 -- ---- the lines of lost blocks
 

@@ -112,7 +112,8 @@ fn put_layout(text: &mut Vec<u8>, layout: LayoutKind)
 /// Puts the words of the line of a geometry behind the text.
 fn put_geometry(text: &mut Vec<u8>, zones: u32, scale: u32, psa: u32, layout: LayoutKind)
     requires room { length text.old.items + 48 ≤ vec_capacity text.old }
-    ensures text { text.new.items ≡ text.old.items ++ parted (certificate_words (lines.Geometry zones scale psa layout)) }
+    ensures text { text.new.items ≡ text.old.items
+        ++ parted (certificate_words (lines.Geometry zones scale psa layout)) }
     ensures len { length text.new.items ≤ length text.old.items + 48 }
     ensures room { vec_capacity text.old ≤ vec_capacity text.new }
 {

@@ -8,9 +8,9 @@ use Rattle.std.proofs.lemmas.List.{take_all, get_or-take, drop-take}
 use lib.Seq.{drop-cons, take_at}
 use borrow.Rule.Slice.PartMut.{put_mid}
 use Rattle.model_buffer.specs.Buffer.{bytes_at, with_newest}
-use Rattle.ram_buffer.specs.Held.{number_at, without, LacksNumber, AreApart, IsPlaceFor}
+use Rattle.ram_buffer.specs.Held.{number_at, without, LacksNumber, HaveDistinctNumbers, IsSlotFor}
 
--- ---- a list without what is at a place
+-- ---- a list without what is at a slot
 
 module _ {X : Type 0} where
   pub without_is : (k : ℕ) (xs : List X) → take k xs ++ drop (suc k) xs ≡ without k xs
@@ -23,7 +23,7 @@ module _ {X : Type 0} where
   take_none zero = refl
   take_none (suc n) = refl
 
-  -- the front of a list without what is at a place
+  -- the front of a list without what is at a slot
   pub front_without : (k n : ℕ) (xs : List X) → k ≤ n → take n (without k xs) ≡ without k (take (suc n) xs)
   front_without k n [] low = take_none n
   front_without zero n (x ∷ xs) low = refl
@@ -84,7 +84,7 @@ lacks_without i k [] lacks = lacks
 lacks_without i zero (h ∷ held) lacks = lacks.1
 lacks_without i (suc k) (h ∷ held) lacks = (lacks.0, lacks_without i k held lacks.1)
 
-apart_without : (k : ℕ) (held : List (ℕ × List ℕ)) → AreApart held → AreApart (without k held)
+apart_without : (k : ℕ) (held : List (ℕ × List ℕ)) → HaveDistinctNumbers held → HaveDistinctNumbers (without k held)
 apart_without k [] apart = apart
 apart_without zero (h ∷ held) apart = apart.1
 apart_without (suc k) (h ∷ held) apart = (lacks_without h.0 k held apart.0, apart_without k held apart.1)
@@ -94,24 +94,24 @@ lacks_front i zero held lacks = tt
 lacks_front i (suc n) [] lacks = tt
 lacks_front i (suc n) (h ∷ held) lacks = (lacks.0, lacks_front i n held lacks.1)
 
-apart_front : (n : ℕ) (held : List (ℕ × List ℕ)) → AreApart held → AreApart (take n held)
+apart_front : (n : ℕ) (held : List (ℕ × List ℕ)) → HaveDistinctNumbers held → HaveDistinctNumbers (take n held)
 apart_front zero held apart = tt
 apart_front (suc n) [] apart = tt
 apart_front (suc n) (h ∷ held) apart = (lacks_front h.0 n held apart.0, apart_front n held apart.1)
 
--- a number that the others lack is not at one of their places
+-- a number that the others lack is not at one of their slots
 lacks_at : (i k : ℕ) (held : List (ℕ × List ℕ)) → k < length held → LacksNumber i held → number_at held k ≢ i
 lacks_at i k [] within lacks = absurd (omega (arith, within))
 lacks_at i zero (h ∷ held) within lacks = lacks.0
 lacks_at i (suc k) (h ∷ held) within lacks = lacks_at i k held (omega (arith, within)) lacks.1
 
--- where no place has a number, the list lacks it
+-- where no slot has a number, the list lacks it
 lacks_all : (i : ℕ) (held : List (ℕ × List ℕ)) → ((j : ℕ) → j < length held → number_at held j ≢ i) → LacksNumber i held
 lacks_all i [] none = tt
 lacks_all i (h ∷ held) none = (none 0 (omega arith), lacks_all i held (λ j below. none (suc j) (omega (arith, below))))
 
 -- the others lack the number of the one that is taken away
-lacks_taken : (i k : ℕ) (held : List (ℕ × List ℕ)) → k < length held → number_at held k ≡ i → AreApart held → LacksNumber i (without k held)
+lacks_taken : (i k : ℕ) (held : List (ℕ × List ℕ)) → k < length held → number_at held k ≡ i → HaveDistinctNumbers held → LacksNumber i (without k held)
 lacks_taken i k [] within is apart = absurd (omega (arith, within))
 lacks_taken i zero (h ∷ held) within is apart = subst (λ (j : ℕ). LacksNumber j held) is apart.0
 lacks_taken i (suc k) (h ∷ held) within is apart =
@@ -125,7 +125,7 @@ others_stay i (h ∷ held) lacks =
     cond-true (not (h.0 == i)) (h ∷ filter (λ x. not (x.0 == i)) held) (filter (λ x. not (x.0 == i)) held) (ap not (ne_eqb h.0 i lacks.0))
     ∙ ap (λ (l : List (ℕ × List ℕ)). h ∷ l) (others_stay i held lacks.1)
 
-one_goes : (i k : ℕ) (held : List (ℕ × List ℕ)) → k < length held → number_at held k ≡ i → AreApart held → filter (λ h. not (h.0 == i)) held ≡ without k held
+one_goes : (i k : ℕ) (held : List (ℕ × List ℕ)) → k < length held → number_at held k ≡ i → HaveDistinctNumbers held → filter (λ h. not (h.0 == i)) held ≡ without k held
 one_goes i k [] within is apart = refl
 one_goes i zero (h ∷ held) within is apart =
     cond-false (not (h.0 == i)) (h ∷ filter (λ x. not (x.0 == i)) held) (filter (λ x. not (x.0 == i)) held) (ap not (eq-eqb h.0 i is))
@@ -140,7 +140,7 @@ one_goes i (suc k) (h ∷ held) within is apart =
 passed_by : (i : ℕ) (h : ℕ × List ℕ) (held : List (ℕ × List ℕ)) → h.0 ≢ i → bytes_at i (h ∷ held) ≡ bytes_at i held
 passed_by i h held other = ap (λ (o : Option (ℕ × List ℕ)). option_map (λ h. h.1) o) (cond-false (h.0 == i) (Some h) (find (λ x. x.0 == i) held) (ne_eqb h.0 i other))
 
-pub found_at : (i k : ℕ) (held : List (ℕ × List ℕ)) → k < length held → number_at held k ≡ i → AreApart held → bytes_at i held ≡ Some (get_or held k (0, [])).1
+pub found_at : (i k : ℕ) (held : List (ℕ × List ℕ)) → k < length held → number_at held k ≡ i → HaveDistinctNumbers held → bytes_at i held ≡ Some (get_or held k (0, [])).1
 found_at i k [] within is apart = absurd (omega (arith, within))
 found_at i zero (h ∷ held) within is apart =
     ap (λ (o : Option (ℕ × List ℕ)). option_map (λ h. h.1) o) (cond-true (h.0 == i) (Some h) (find (λ x. x.0 == i) held) (eq-eqb h.0 i is))
@@ -164,11 +164,11 @@ module _ (rooms : List (ℕ × List ℕ)) (count : ℕ) (long : count ≤ length
   lacks_there i none = lacks_all i (take count rooms) (λ j below same.
       let within : j < count = omega (arith, below, many) in none j within (sym (number_there j within) ∙ same))
 
-  -- no block is found that has none of the places
+  -- no block is found that has none of the slots
   pub none_there : (i : ℕ) → ((j : ℕ) → j < count → number_at rooms j ≢ i) → bytes_at i (take count rooms) ≡ None
   none_there i none = none_found i (take count rooms) (lacks_there i none)
 
-  module _ (apart : AreApart (take count rooms)) (i k : ℕ) (within : k < count) (is : number_at rooms k ≡ i) where
+  module _ (apart : HaveDistinctNumbers (take count rooms)) (i k : ℕ) (within : k < count) (is : number_at rooms k ≡ i) where
     below : k < length (take count rooms)
     below = omega (arith, within, many)
 
@@ -187,17 +187,17 @@ module _ (rooms : List (ℕ × List ℕ)) (count : ℕ) (long : count ≤ length
     others_few : suc (length (without k (take count rooms))) ≡ count
     others_few = length-without k (take count rooms) below ∙ many
 
--- A block was put before the others, from its place or from that of one that makes room.
-module _ (rooms : List (ℕ × List ℕ)) (count : ℕ) (long : count ≤ length rooms) (few : count ≤ 8) (apart : AreApart (take count rooms)) (i k : ℕ) (bytes : List ℕ) where
+-- A block was put before the others, from its slot or from that of one that makes room.
+module _ (rooms : List (ℕ × List ℕ)) (count : ℕ) (long : count ≤ length rooms) (few : count ≤ 8) (apart : HaveDistinctNumbers (take count rooms)) (i k : ℕ) (bytes : List ℕ) where
   abbrev pub used : List (ℕ × List ℕ)
   used = (i, bytes) ∷ without k rooms
 
   pub record IsUsed (n : ℕ) : Type 0 where
-    pub others_apart : AreApart (take n used)
+    pub others_apart : HaveDistinctNumbers (take n used)
     pub is : take n used ≡ with_newest i bytes (take count rooms)
     pub at_most : n ≤ 8
 
-  -- from its own place
+  -- from its own slot
   own_used : (n : ℕ) → n ≡ count → k < count → number_at rooms k ≡ i → IsUsed n
   own_used zero all within is = absurd (omega (arith, all, within))
   own_used (suc m) all within is =
@@ -205,7 +205,7 @@ module _ (rooms : List (ℕ × List ℕ)) (count : ℕ) (long : count ≤ length
       let less = others_few rooms count long apart i k within is in
       let same = others_are rooms count long apart i k within is in
       record {
-        others_apart = subst (λ (l : List (ℕ × List ℕ)). LacksNumber i l × AreApart l) (sym others) (others_lack rooms count long apart i k within is, apart_without k (take count rooms) apart);
+        others_apart = subst (λ (l : List (ℕ × List ℕ)). LacksNumber i l × HaveDistinctNumbers l) (sym others) (others_lack rooms count long apart i k within is, apart_without k (take count rooms) apart);
         is = ap (λ (l : List (ℕ × List ℕ)). (i, bytes) ∷ l) (others ∙ sym same)
             ∙ sym (take_all 8 ((i, bytes) ∷ filter (λ h. not (h.0 == i)) (take count rooms)) (omega (arith, few, less, ap length same)));
         at_most = omega (arith, all, few);
@@ -217,20 +217,20 @@ module _ (rooms : List (ℕ × List ℕ)) (count : ℕ) (long : count ≤ length
     | inr high ↦ ap (λ (n : ℕ). take n rooms) (let seven : min count 7 ≡ 7 = omega (arith, high) in seven) ∙ sym (front_twice 7 count rooms (omega (arith, high)))
   ]
 
-  -- from a place that was free, or is made so
+  -- from a slot that was free, or is made so
   free_used : ((j : ℕ) → j < count → number_at rooms j ≢ i) → k ≡ min count 7 → IsUsed (suc k)
   free_used none last =
       let lacks = lacks_there rooms count long i none in
       let others : take k (without k rooms) ≡ take 7 (take count rooms) =
       front_without k k rooms (omega arith) ∙ last_without k rooms ∙ ap (λ (n : ℕ). take n rooms) last ∙ front_of_front in
       record {
-        others_apart = subst (λ (l : List (ℕ × List ℕ)). LacksNumber i l × AreApart l) (sym others) (lacks_front i 7 (take count rooms) lacks, apart_front 7 (take count rooms) apart);
+        others_apart = subst (λ (l : List (ℕ × List ℕ)). LacksNumber i l × HaveDistinctNumbers l) (sym others) (lacks_front i 7 (take count rooms) lacks, apart_front 7 (take count rooms) apart);
         is = ap (λ (l : List (ℕ × List ℕ)). (i, bytes) ∷ l) (others ∙ ap (take 7) (sym (others_stay i (take count rooms) lacks)));
         at_most = omega (arith, last);
       }
 
   -- with as many blocks as there are then
-  pub put_used : IsPlaceFor rooms count i k → IsUsed (max count (suc k))
+  pub put_used : IsSlotFor rooms count i k → IsUsed (max count (suc k))
   put_used (inl p) = own_used (max count (suc k)) (let within = p.0 in omega (arith, within)) p.0 p.1
   put_used (inr p) = subst IsUsed (let last = p.1 in omega (arith, last, few)) (free_used p.0 p.1)
 

@@ -285,20 +285,20 @@ fn mode_sense(short: bool, cdb: &[u8], alloc: u32) -> Command
 }
 
 // The bit of this place, from 0 for the lowest, in this byte.
-fn flag(bytes: &[u8], at: usize, place: u32) -> bool
+fn flag(bytes: &[u8], at: usize, bit: u32) -> bool
     requires inside { at < length bytes.now }
-    requires place { place < 8 }
-    ensures { result ≡ flag at place bytes.now }
+    requires bit { bit < 8 }
+    ensures { result ≡ flag at bit bytes.now }
 {
-    bytes[at] >> place & 1 == 1
+    bytes[at] >> bit & 1 == 1
 }
 
 // The number in n of the bits of this byte, from this place on.
-fn bits(bytes: &[u8], at: usize, place: u32, width: u32) -> u8
+fn bits(bytes: &[u8], at: usize, bit: u32, width: u32) -> u8
     requires inside { at < length bytes.now }
-    requires place { place < 8 }
+    requires bit { bit < 8 }
     requires width { width < 8 }
-    ensures { result ≡ bits at place width bytes.now }
+    ensures { result ≡ bits at bit width bytes.now }
 {
-    (bytes[at] >> place) % (1 << width)
+    (bytes[at] >> bit) % (1 << width)
 }

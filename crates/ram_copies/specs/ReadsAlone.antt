@@ -5,16 +5,16 @@ use Rattle.model_medium.specs.Exact.{Event, Read, Write, PowerOn, PowerOff}
 use Rattle.model_medium.specs.Happened.{Happens}
 
 -- the event is a read, however it ended
-abbrev pub IsRead : Event → Type 0
-IsRead (Read block into into' how) = Unit {0}
-IsRead (Write block bytes how) = ⊥
-IsRead PowerOn = ⊥
-IsRead PowerOff = ⊥
+abbrev pub AsksRead : Event → Type 0
+AsksRead (Read block into into' how) = Unit {0}
+AsksRead (Write block bytes how) = ⊥
+AsksRead PowerOn = ⊥
+AsksRead PowerOff = ⊥
 
 -- the events are reads
 abbrev pub AreReads : List Event → Type 0
 AreReads [] = Unit {0}
-AreReads (event ∷ events) = IsRead event × AreReads events
+AreReads (event ∷ events) = AsksRead event × AreReads events
 
 -- Reads happened in between, and nothing else.
 pub record ReadsAlone {M : Type 0} (takes : M → M → Event → Type 0) (first last : M) : Type 0 where

@@ -15,8 +15,8 @@ use std::rt::{Env, Files};
 use std::{env, io};
 
 fn main(rt: HostRuntime) -> ExitCode {
-    let status = match hold_places(&rt) {
-        Ok(_places) => answer(&rt),
+    let status = match hold_descriptors(&rt) {
+        Ok(_descriptors) => answer(&rt),
         Err(_) => Status::ImageFault,
     };
     ExitCode::from(status.exit_number())
@@ -24,7 +24,7 @@ fn main(rt: HostRuntime) -> ExitCode {
 
 /// The places of the standard streams that were closed when the program began, each held by the null device.
 #[derive(Drop)]
-struct Places<F: Drop> {
+struct HeldDescriptors<F: Drop> {
     input: F,
     output: F,
     errors: F,
@@ -33,8 +33,8 @@ struct Places<F: Drop> {
 /// Opens the null device for reading, once for each standard stream. The system gives each file the lowest number that is
 /// free, so that no image comes to stand in the place of a closed stream: a closed input is then an empty script, and
 /// a closed output takes nothing.
-fn hold_places<R: Files>(rt: &R) -> io::Result<Places<R::File>> {
-    Ok(Places {
+fn hold_descriptors<R: Files>(rt: &R) -> io::Result<HeldDescriptors<R::File>> {
+    Ok(HeldDescriptors {
         input: File::open(rt, "/dev/null")?,
         output: File::open(rt, "/dev/null")?,
         errors: File::open(rt, "/dev/null")?,

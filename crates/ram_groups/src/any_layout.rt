@@ -10,7 +10,7 @@ use crate::zone_layout::ZoneLayout;
 use ram_bytes::{Budget, MemoryRefused};
 use ram_dds::DdsPdl;
 use ram_layout::{Layout, SlipLayout};
-use ram_slip::Place;
+use ram_slip::Role;
 use ram_zones::{Geometry, LayoutKind};
 
 /// The layout of a disc, of either kind.
@@ -148,10 +148,10 @@ impl Layout for AnyLayout {
         }
     }
 
-    fn place(&self, block: u32) -> Place {
+    fn role(&self, block: u32) -> Role {
         match self {
-            AnyLayout::Slip(layout) => layout.place(block),
-            AnyLayout::Zones(layout) => layout.place(block),
+            AnyLayout::Slip(layout) => layout.role(block),
+            AnyLayout::Zones(layout) => layout.role(block),
         }
     }
 }

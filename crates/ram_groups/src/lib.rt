@@ -6,7 +6,7 @@
 //!
 //! # What is neither
 //!
-//! How fast the calls are. `physical`, `pool_of`, `spare` and `place` find the zone by halving, in at most six steps, and search
+//! How fast the calls are. `physical`, `pool_of`, `spare` and `role` find the zone by halving, in at most six steps, and search
 //! the runs as slipping does; `rebuild` goes over the zones and the slipped blocks once. `AnyLayout` adds one `match` to each
 //! call.
 //!

@@ -15,7 +15,7 @@ use ram_bytes::{Budget, MemoryRefused};
 use ram_dds::DdsPdl;
 use ram_layout::{Layout, MOST_RUNS, RUNS_MEMORY, Run};
 use ram_runs::{block_at, place_at};
-use ram_slip::{Place, zone_count, zone_first};
+use ram_slip::{Role, zone_count, zone_first};
 use ram_zones::Geometry;
 use std::marker::Model;
 use std::mem::size_of;
@@ -156,20 +156,20 @@ impl Layout for ZoneLayout {
         None
     }
 
-    fn place(&self, block: u32) -> Place {
+    fn role(&self, block: u32) -> Role {
         let Some(n) = place_at(self.runs.as_slice(), block) else {
             return match self.geometry.data_index(block) {
-                Some(_) => Place::Slipped,
-                None => Place::Outside,
+                Some(_) => Role::Slipped,
+                None => Role::Outside,
             };
         };
         let zone = self.zone_of_place(n);
         let after = n - self.start(zone);
         if after < zone_count(&self.geometry, zone) {
-            return Place::Logical {
+            return Role::Logical {
                 i: zone_first(&self.geometry, zone) + after,
             };
         }
-        Place::Primary
+        Role::Primary
     }
 }

@@ -5,14 +5,14 @@ use Rattle.std.specs.Bool.{OnTrue}
 use Rattle.std.proofs.Common.{refl, sym, subst}
 use Rattle.model_medium.specs.Cells.{IsGood, cell_at}
 use Rattle.model_medium.specs.Machine.{Machine}
-use Rattle.model_image.specs.Cells.{state_place, cell_in, cells_known}
+use Rattle.model_image.specs.Cells.{state_offset, cell_in, cells_known}
 use Rattle.model_image.proofs.Writes.{cell_at-cells_of}
 use Rattle.ram_image.specs.CellCalls.{HaveGoodStates}
 use Rattle.ram_image.specs.Begun.{LookRule, HasBytesRule}
 use Rattle.ram_image.specs.declared.medium.Looked.{Looked}
 use Rattle.ram_image.specs.declared.medium.Looked.TheVariants.{Good, NotGood, Failed}
 
-good_state : (total block : ℕ) (held : List ℕ) → slice_index held (state_place block) ≡ 1 → IsGood (cell_in total held block)
+good_state : (total block : ℕ) (held : List ℕ) → slice_index held (state_offset block) ≡ 1 → IsGood (cell_in total held block)
 good_state total block held is = rw is tt
 
 good_known : (total block from to : ℕ) (bytes : Option (List ℕ)) → block < total → from ≤ block → block < to → ForSome bytes (λ held. HaveGoodStates held from to)

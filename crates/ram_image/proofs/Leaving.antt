@@ -7,7 +7,7 @@ use Rattle.model_bytes.specs.Known.{WhereKnown}
 use Rattle.model_medium.specs.Cells.{Cell, Blank, Good, Torn, Dead, cell_at, unless_dead, cut_short}
 use Rattle.model_medium.specs.declared.Fate.{Fate}
 use Rattle.model_medium.specs.declared.Fate.TheVariants as fates
-use Rattle.model_image.specs.Cells.{state_place, image_len, cell_of, cell_in, cells_of, SetsCell, StopsInCell, StopsInState}
+use Rattle.model_image.specs.Cells.{state_offset, image_len, cell_of, cell_in, cells_of, SetsCell, StopsInCell, StopsInState}
 use Rattle.model_image.proofs.Writes.{cell_at-cells_of}
 use Rattle.model_image.proofs.StateWrites.{known-put_state, known-stopped_state}
 use Rattle.model_image.proofs.KnownCells.{known_more, same_where_known, sets_same}
@@ -18,7 +18,7 @@ use Rattle.ram_image.specs.CellCalls.{call_between, WriteStateRule, WriteCellRul
 
 -- a write of a state byte
 pub state_written : (total block : ℕ) → block < total → (byte : ℕ) (cell : Cell) → ((bytes : List ℕ) → cell_of byte bytes ≡ cell) → (before after : Option (List ℕ)) → ForSome before (λ held. length held ≡ image_len total)
-    → (f f' : ℕ) (r : Moved) → WriteAtRule before after f f' (state_place block) (byte ∷ []) r → WriteStateRule (call_between total block before after f f') cell r
+    → (f f' : ℕ) (r : Moved) → WriteAtRule before after f f' (state_offset block) (byte ∷ []) r → WriteStateRule (call_between total block before after f f') cell r
 state_written total block inside byte cell always before after whole f f' moves.Done rule = (known-put_state total block inside byte cell always before after whole rule.changed, rule.count)
 state_written total block inside byte cell always before after whole f f' moves.Failed rule = (known-stopped_state total block inside byte cell always before after whole rule.1, rule.0)
 

@@ -4,7 +4,7 @@ use Rattle.model_counts.specs.Counts.{Rose}
 use Rattle.model_bytes.specs.Known.{WhereKnown}
 use Rattle.model_medium.specs.Cells.{Cell, Good, Dead, IsGood, cell_at, cut_short}
 use Rattle.model_medium.specs.declared.Fate.{Fate}
-use Rattle.model_image.specs.Cells.{state_place, cell_in, cells_of, SetsCell, StopsInCell, StopsInState}
+use Rattle.model_image.specs.Cells.{state_offset, cell_in, cells_of, SetsCell, StopsInCell, StopsInState}
 use Rattle.model_image.specs.Writes.{good_state, with_state, with_block, worn_bytes, bytes_left, PutsInBlock, StopsInBytes, IsBeforeOrAfter}
 use Rattle.ram_outside.specs.Image.{IsUnchanged, ImageFails}
 use Rattle.ram_outside.specs.declared.image.Image.{Ghosts as Images}
@@ -58,7 +58,7 @@ BytesRule call done failed moves.Failed = WhereKnown call.before call.after fail
 
 -- the state bytes of the blocks from one on up to another are those of good ones
 abbrev pub HaveGoodStates : List ℕ → (from to : ℕ) → Type 0
-HaveGoodStates held from to = (k : ℕ) → from ≤ k → k < to → slice_index held (state_place k) ≡ good_state
+HaveGoodStates held from to = (k : ℕ) → from ≤ k → k < to → slice_index held (state_offset k) ≡ good_state
 
 -- n state bytes at the start are those of good blocks, and the next one, where there is one, is not
 pub record LeadsWithGood (states : List ℕ) (count : ℕ) : Type 0 where
@@ -69,7 +69,7 @@ pub record LeadsWithGood (states : List ℕ) (count : ℕ) : Type 0 where
 -- the state bytes that one look reads, from a block's own on: 64, or those up to the last block's
 abbrev pub states_read : CellCall → List ℕ → List ℕ
 states_read call held =
-    slice_range held (state_place call.block) (state_place call.block + min 64 (call.total - call.block))
+    slice_range held (state_offset call.block) (state_offset call.block + min 64 (call.total - call.block))
 
 -- What a look at the state bytes from a block on may do, by its answer.
 abbrev pub GoodRowRule : CellCall → GoodRow → Type 0

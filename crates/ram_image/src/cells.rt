@@ -46,7 +46,7 @@ pub fn count_good<I: Image>(image: &mut I, total: u32, block: u32) -> GoodRow
     let count = STATES.min((total - block) as usize);
     let mut room = [0u8; STATES];
     let states = &mut room[..count];
-    match image.read_at(state_place(block), states) {
+    match image.read_at(state_offset(block), states) {
         Moved::Failed => GoodRow::Failed,
         Moved::Done => GoodRow::Blocks(leading_good(states) as u32),
     }
@@ -70,7 +70,7 @@ pub fn read_data<I: Image>(image: &mut I, total: u32, block: u32, into: &mut [u8
     requires good { ForSome (I.bytes image.old) (λ held. slice_index held (16 + block) ≡ 1) }
     ensures { ReadDataRule (cell_call I.Image total block image.old image.new) into.new result }
 {
-    image.read_at(data_place(total, block), into)
+    image.read_at(data_offset(total, block), into)
 }
 
 /// Writes the cell of a block that is not dead, in an image of n blocks: the state byte of a torn block, the
@@ -82,15 +82,15 @@ pub fn write_cell<I: Image>(image: &mut I, total: u32, block: u32, from: &[u8]) 
     ensures rule { WriteCellRule (cell_call I.Image total block image.old image.new) from.now result }
     ensures bytes { WriteCellBytes (cell_call I.Image total block image.old image.new) from.now result }
 {
-    match image.write_at(state_place(block), &[TORN]) {
+    match image.write_at(state_offset(block), &[TORN]) {
         Moved::Failed => return Moved::Failed,
         Moved::Done => {}
     }
-    match image.write_at(data_place(total, block), from) {
+    match image.write_at(data_offset(total, block), from) {
         Moved::Failed => return Moved::Failed,
         Moved::Done => {}
     }
-    image.write_at(state_place(block), &[GOOD])
+    image.write_at(state_offset(block), &[GOOD])
 }
 
 /// What the state byte of a block says.
@@ -111,7 +111,7 @@ pub fn read_state<I: Image>(image: &mut I, total: u32, block: u32) -> StateRead
     ensures { ReadStateRule (cell_call I.Image total block image.old image.new) result }
 {
     let mut state = [0u8; 1];
-    match image.read_at(state_place(block), &mut state) {
+    match image.read_at(state_offset(block), &mut state) {
         Moved::Failed => StateRead::Failed,
         Moved::Done => {
             if state[0] == DEAD {
@@ -130,7 +130,7 @@ pub fn kill_cell<I: Image>(image: &mut I, total: u32, block: u32) -> Moved
     ensures rule { WriteStateRule (cell_call I.Image total block image.old image.new) Dead result }
     ensures bytes { WriteStateBytes (cell_call I.Image total block image.old image.new) dead_state result }
 {
-    image.write_at(state_place(block), &[DEAD])
+    image.write_at(state_offset(block), &[DEAD])
 }
 
 /// Makes a block torn, as the first of the three writes of its cell does.
@@ -140,7 +140,7 @@ fn tear_cell<I: Image>(image: &mut I, total: u32, block: u32) -> Moved
     ensures rule { WriteStateRule (cell_call I.Image total block image.old image.new) Torn result }
     ensures bytes { WriteStateBytes (cell_call I.Image total block image.old image.new) torn_state result }
 {
-    image.write_at(state_place(block), &[TORN])
+    image.write_at(state_offset(block), &[TORN])
 }
 
 /// Makes a block dead where it is to die, and does nothing else.
@@ -201,14 +201,14 @@ fn leave_alive<I: Image>(image: &mut I, total: u32, block: u32, from: &[u8], fat
 }
 
 /// Where the state byte of a block stands.
-fn state_place(block: u32) -> u64
+fn state_offset(block: u32) -> u64
     ensures { result ≡ 16 + block }
 {
     HEADER_BYTES as u64 + u64::from(block)
 }
 
 /// Where the data of a block begin, in an image of n blocks.
-fn data_place(total: u32, block: u32) -> u64
+fn data_offset(total: u32, block: u32) -> u64
     ensures { result ≡ 16 + total + 32768 * block }
 {
     HEADER_BYTES as u64 + u64::from(total) + BLOCK_BYTES as u64 * u64::from(block)

@@ -2,9 +2,9 @@
 
 ghost use Rattle.std.specs.Prelude.{◌≡◌, ℕ, ◌<◌, ◌^◌, List, length, slice_get};
 ghost use Rattle.model_pools.specs.Pools.{Pool, ArePools, logical_in, pool_of, spares_at, block_in};
-ghost use Rattle.ram_layout.specs.Layouts.{IsPlaceIn};
+ghost use Rattle.ram_layout.specs.Layouts.{HasRoleIn};
 
-use ram_slip::Place;
+use ram_slip::Role;
 
 /// Where the logical blocks of a disc and its spares lie. The spares are in pools, and each logical block has one pool that it
 /// may go to.
@@ -75,11 +75,11 @@ pub trait Layout {
     ///
     /// # Answers
     ///
-    /// - `Logical`: the block is that logical block. (`IsPlaceIn`)
-    /// - `Primary`: it is a spare. (`IsPlaceIn`)
-    /// - `Supplementary`: it is a spare. (`IsPlaceIn`)
-    /// - `Slipped`: it is a data block, but no logical block and no spare. (`IsPlaceIn`)
-    /// - `Outside`: it is no data block. (`IsPlaceIn`)
-    fn place(&self, block: u32) -> Place
-        ensures { IsPlaceIn (blocks self.now) (pools self.now) block result };
+    /// - `Logical`: the block is that logical block. (`HasRoleIn`)
+    /// - `Primary`: it is a spare. (`HasRoleIn`)
+    /// - `Supplementary`: it is a spare. (`HasRoleIn`)
+    /// - `Slipped`: it is a data block, but no logical block and no spare. (`HasRoleIn`)
+    /// - `Outside`: it is no data block. (`HasRoleIn`)
+    fn role(&self, block: u32) -> Role
+        ensures { HasRoleIn (blocks self.now) (pools self.now) block result };
 }

@@ -26,7 +26,7 @@
 //!
 //! # What is neither
 //!
-//! How fast the calls are. `physical`, `spare` and `place` search the runs by halving, so they take about as many steps as the
+//! How fast the calls are. `physical`, `spare` and `role` search the runs by halving, so they take about as many steps as the
 //! number of runs has binary digits, at most fourteen; `rebuild` goes over the zones and the slipped blocks once.
 //!
 //! # What is trusted

@@ -14,7 +14,7 @@ use crate::layout::Layout;
 use ram_bytes::{Budget, MemoryRefused};
 use ram_dds::DdsPdl;
 use ram_runs::{Run, block_at, count_in, place_at};
-use ram_slip::Place;
+use ram_slip::Role;
 use ram_zones::{Geometry, MOST_SPARES, MOST_ZONES};
 use std::marker::Model;
 use std::mem::size_of;
@@ -172,20 +172,20 @@ impl Layout for SlipLayout {
         None
     }
 
-    fn place(&self, block: u32) -> Place {
+    fn role(&self, block: u32) -> Role {
         let Some(n) = place_at(self.runs.as_slice(), block) else {
             return match self.geometry.data_index(block) {
-                Some(_) => Place::Slipped,
-                None => Place::Outside,
+                Some(_) => Role::Slipped,
+                None => Role::Outside,
             };
         };
         if n < self.primary {
-            return Place::Primary;
+            return Role::Primary;
         }
         let i = n - self.primary;
         if i < self.logical {
-            return Place::Logical { i };
+            return Role::Logical { i };
         }
-        Place::Supplementary
+        Role::Supplementary
     }
 }

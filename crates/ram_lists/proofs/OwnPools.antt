@@ -15,7 +15,7 @@ use Rattle.model_pools.proofs.Replacements.{replacement_of_here, replacement_of_
 use Rattle.model_places.specs.Places.{Lists, logical_count, pools_under, logical_block, logical_blocks, spares, spares_of}
 use Rattle.model_places.specs.Valid.{IsValidPdl, IsValidSsa, IsValidSdl}
 use Rattle.model_places.proofs.Layouts.{length-logical_in}
-use Rattle.ram_slip.specs.Place.{SharesPool}
+use Rattle.ram_slip.specs.Roles.{SharesPool}
 use Rattle.ram_slip.proofs.SharedPools.{shares_own, own_shares}
 
 -- what holds of the replacement in each entry of a block holds of what replaces it

@@ -13,7 +13,7 @@ use Rattle.ram_lists.specs.declared.choosing.FoundLists.{FoundLists}
 use Rattle.ram_lists.specs.declared.choosing.FoundLists.TheVariants as founds
 use Rattle.ram_zones.specs.declared.list_kind.ListKind.TheVariants as kinds
 use Rattle.ram_copies.specs.Values.{ListValue, DdsValue, SdlValue}
-use Rattle.ram_copies.specs.Choices.{held_in}
+use Rattle.ram_copies.specs.Choices.{best_in}
 use Rattle.ram_copies.specs.Chooses.{HasChosen}
 use Rattle.ram_lists.specs.Lists.{AcceptsDds, AcceptsSdl, AcceptsNothing}
 
@@ -28,10 +28,10 @@ pub record ChoosesBoth {M : Type 0} (world : M → World) (reaches : M → M →
     (lists : places.Lists) (dds_area sdl_area : Option ℕ) (mark : ℕ) : Type 0 where
   pub mid : M
   pub dds_mark : ℕ
-  pub dds : HasChosen world reaches kinds.Dds shape old mid (AcceptsDds shape) (held_in dds_area (DdsValue lists.dds)) dds_mark
+  pub dds : HasChosen world reaches kinds.Dds shape old mid (AcceptsDds shape) (best_in dds_area (DdsValue lists.dds)) dds_mark
   pub sdl_mark : ℕ
   pub sdl : HasChosen world reaches kinds.Sdl shape mid new (AcceptsBelow shape lists.dds dds_area)
-      (held_in sdl_area (SdlValue lists.sdl)) sdl_mark
+      (best_in sdl_area (SdlValue lists.sdl)) sdl_mark
   pub no_less : dds_mark ≤ mark
   pub no_less' : sdl_mark ≤ mark
   pub one_of_both : (mark ≡ dds_mark) ⊎ (mark ≡ sdl_mark)

@@ -9,7 +9,7 @@ ghost use Rattle.ram_zones.specs.declared.list_kind.ListKind.TheVariants as kind
 ghost use Rattle.ram_dds.specs.Dds.{dds_of};
 ghost use Rattle.ram_sdl.specs.Sdl.{sdl_of};
 ghost use Rattle.ram_copies.specs.Values.{SdlValue};
-ghost use Rattle.ram_copies.specs.Choices.{held_in};
+ghost use Rattle.ram_copies.specs.Choices.{best_in};
 ghost use Rattle.ram_copies.specs.Chooses.{HasChosen, StopsChoosing};
 ghost use Rattle.ram_copies.specs.ReadsAlone.{ReadsAlone};
 ghost use Rattle.ram_lists.specs.Lists.{AcceptsSdl, lists_of};
@@ -79,7 +79,7 @@ fn choose_under<M: Medium>(
     requires on { IsTrue (M.world medium.old).power }
     ensures rule { MatchResult result
         (λ choice. HasChosen M.world M.reaches kinds.Sdl geometry.now medium.old medium.new
-        (AcceptsSdl geometry.now (dds_of dds.now)) (held_in choice.area (SdlValue (sdl_of sdl.new))) choice.mark)
+        (AcceptsSdl geometry.now (dds_of dds.now)) (best_in choice.area (SdlValue (sdl_of sdl.new))) choice.mark)
         (StopsChoosing M.world M.reaches kinds.Sdl geometry.now medium.old medium.new) }
     ensures reads { ReadsAlone M.takes medium.old medium.new }
     ensures as_many { M.block_count medium.new ≡ M.block_count medium.old }

@@ -1,3 +1,5 @@
+mod MarkedSoFar
+mod ReadSoFar
 mod Marks
 mod Counts
 mod Ends

@@ -1,15 +1,14 @@
 -- A read of a mirror, block after block: what the reads of one block give, and how far a read came. (This project's own.)
-use Rattle.std.specs.Prelude.{◌≡◌, ℕ, ◌-◌, ◌*◌, MatchBool, List, [], ◌∷◌, length, take}
+use Rattle.std.specs.Prelude.{◌≡◌, ℕ, ◌-◌, MatchBool, List, [], ◌∷◌, length}
 use Rattle.model_sectors.specs.Discs.{Standing, On, Off, block_of, sectors_of}
 use Rattle.model_sectors.specs.Requests.{start_in, end_in, filled_by}
 use Rattle.model_sectors.specs.declared.ReadOut.{ReadOut}
 use Rattle.model_sectors.specs.declared.ReadOut.TheVariants as reads
-use Rattle.model_drive.specs.Shown.{Shown, IsOn, IsFormatted, block_count}
-use Rattle.ram_requests.proofs.ReadBytes.{done}
+use Rattle.model_drive.specs.Shown.{Shown}
 use Rattle.model_cache.specs.Chains.{ReadsDisc}
 use Rattle.model_mirror.specs.Shown.{MirrorShown, stands_in}
 use Rattle.model_mirror.specs.Standing.{IsFollowed, StandsSomehow}
-use Rattle.model_mirror.specs.Reads.{MirrorReadsParts, AsksOther}
+use Rattle.model_mirror.specs.Reads.{AsksOther}
 
 -- the part of a request in one block was read from a side
 abbrev pub ReadsSide : Shown → Shown → (lba n block : ℕ) → ReadOut → Type 0
@@ -76,16 +75,3 @@ module _ (lead' other' : Standing → Type 0) (new : MirrorShown) (disc : List �
 abbrev pub OffGives : (lead' other' : Standing → Type 0) → List (List ℕ) → ReadOut → Type 0
 OffGives lead' other' discs reads.Off = lead' (Off discs) × StandsSomehow other'
 OffGives lead' other' discs _ = ⊥
-
--- The first k blocks of a request were read, and their bytes stand at the front.
-pub record MirrorReadSoFar (start now : MirrorShown) (lba n k : ℕ) (into : List ℕ) (lead other lead' other' : Standing → Type 0) : Type 0 where
-  pub parts : MirrorReadsParts start now lba n k
-  pub on : IsOn now.lead
-  pub formatted : IsFormatted now.lead
-  pub same_shape : now.lead.shape ≡ start.lead.shape
-  pub same_count : block_count now.lead ≡ block_count start.lead
-  pub same_on : now.on ≡ start.on
-  pub same_table : now.table ≡ start.table
-  pub long : length into ≡ 2048 * n
-  pub gives : (disc : List ℕ) → lead (On disc) → IsFollowed start other disc
-      → StillHas lead' other' now disc × (take (2048 * done lba n k) into ≡ sectors_of disc lba (done lba n k))

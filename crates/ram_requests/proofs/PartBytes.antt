@@ -7,10 +7,10 @@ use Rattle.model_sectors.specs.Requests.{start_in, end_in, part_of, merged_in, t
 use Rattle.model_sectors.proofs.Pieces.{put_at-whole, length_part_of}
 
 module _ (lba n block start end : ℕ) (start_is : start ≡ start_in lba block) (end_is : end ≡ end_in lba n block)
-    (place skipped len : ℕ) (place_is : place ≡ 2048 * (start - 16 * block)) (skipped_is : skipped ≡ 2048 * (start - lba)) (len_is : len ≡ 2048 * (end - start)) where
+    (offset skipped len : ℕ) (offset_is : offset ≡ 2048 * (start - 16 * block)) (skipped_is : skipped ≡ 2048 * (start - lba)) (len_is : len ≡ 2048 * (end - start)) where
   -- the three numbers, by the request and the block
-  place_in : place ≡ 2048 * (start_in lba block - 16 * block)
-  place_in = place_is ∙ ap (λ (s : ℕ). 2048 * (s - 16 * block)) start_is
+  offset_in : offset ≡ 2048 * (start_in lba block - 16 * block)
+  offset_in = offset_is ∙ ap (λ (s : ℕ). 2048 * (s - 16 * block)) start_is
 
   skipped_in : skipped ≡ 2048 * (start_in lba block - lba)
   skipped_in = skipped_is ∙ ap (λ (s : ℕ). 2048 * (s - lba)) start_is
@@ -21,23 +21,23 @@ module _ (lba n block start end : ℕ) (start_is : start ≡ start_in lba block)
       many ∙ len_is ∙ ap (λ (e : ℕ). 2048 * (e - start)) end_is ∙ ap (λ (s : ℕ). 2048 * (end_in lba n block - s)) start_is
 
   -- what was copied out is what the request covers of the block
-  pub filled : (held bytes into into' : List ℕ) → held ≡ bytes → into' ≡ put_at skipped (take (place + len - place) (drop place held)) into → into' ≡ filled_by lba n block bytes into
+  pub filled : (held bytes into into' : List ℕ) → held ≡ bytes → into' ≡ put_at skipped (take (offset + len - offset) (drop offset held)) into → into' ≡ filled_by lba n block bytes into
   unfolding filled_by taken_from
   filled held bytes into into' same put =
       put
-      ∙ ap (λ (m : ℕ). put_at skipped (take m (drop place held)) into) (len_in place)
-      ∙ ap (λ (l : List ℕ). put_at skipped (take (2048 * (end_in lba n block - start_in lba block)) (drop place l)) into) same
-      ∙ ap (λ (m : ℕ). put_at skipped (take (2048 * (end_in lba n block - start_in lba block)) (drop m bytes)) into) place_in
+      ∙ ap (λ (m : ℕ). put_at skipped (take m (drop offset held)) into) (len_in offset)
+      ∙ ap (λ (l : List ℕ). put_at skipped (take (2048 * (end_in lba n block - start_in lba block)) (drop offset l)) into) same
+      ∙ ap (λ (m : ℕ). put_at skipped (take (2048 * (end_in lba n block - start_in lba block)) (drop m bytes)) into) offset_in
       ∙ ap (λ (m : ℕ). put_at m (take (2048 * (end_in lba n block - start_in lba block)) (drop (2048 * (start_in lba block - 16 * block)) bytes)) into) skipped_in
 
   -- and what was merged into the block are the bytes of the request in their places
-  pub merged : (bytes held new : List ℕ) → new ≡ put_at place (take (skipped + len - skipped) (drop skipped bytes)) held → new ≡ merged_in lba n bytes block held
+  pub merged : (bytes held new : List ℕ) → new ≡ put_at offset (take (skipped + len - skipped) (drop skipped bytes)) held → new ≡ merged_in lba n bytes block held
   unfolding merged_in part_of
   merged bytes held new put =
       put
-      ∙ ap (λ (m : ℕ). put_at place (take m (drop skipped bytes)) held) (len_in skipped)
-      ∙ ap (λ (m : ℕ). put_at place (take (2048 * (end_in lba n block - start_in lba block)) (drop m bytes)) held) skipped_in
-      ∙ ap (λ (m : ℕ). put_at m (take (2048 * (end_in lba n block - start_in lba block)) (drop (2048 * (start_in lba block - lba)) bytes)) held) place_in
+      ∙ ap (λ (m : ℕ). put_at offset (take m (drop skipped bytes)) held) (len_in skipped)
+      ∙ ap (λ (m : ℕ). put_at offset (take (2048 * (end_in lba n block - start_in lba block)) (drop m bytes)) held) skipped_in
+      ∙ ap (λ (m : ℕ). put_at m (take (2048 * (end_in lba n block - start_in lba block)) (drop (2048 * (start_in lba block - lba)) bytes)) held) offset_in
 
   -- the bytes of the request that are all of the block are what is merged into it
   pub merged_whole : (bytes held : List ℕ) → length bytes ≡ 2048 * n → length held ≡ 32768 → 32768 ≤ len → take (skipped + 32768 - skipped) (drop skipped bytes) ≡ merged_in lba n bytes block held

@@ -56,12 +56,12 @@ prefix_more lba n k blocks disc block into into' covered inside long whole is pu
     let end : ℕ = end_in lba n i in
     let at : ℕ = start - lba in
     let count : ℕ = end - start in
-    let place : ℕ = start - 16 * i in
+    let offset : ℕ = start - 16 * i in
     let some = covered_part lba n k covered in
     let after = covered_after lba n k covered in
-    let there : 16 * i + place ≡ lba + at = omega arith in
-    let part : take (2048 * count) (drop (2048 * place) block) ≡ sectors_of disc (lba + at) count =
-    ap (λ (l : List ℕ). take (2048 * count) (drop (2048 * place) l)) is ∙ sym (sectors_in_block disc i place count (omega arith)) ∙ ap (λ (m : ℕ). sectors_of disc m count) there in
+    let there : 16 * i + offset ≡ lba + at = omega arith in
+    let part : take (2048 * count) (drop (2048 * offset) block) ≡ sectors_of disc (lba + at) count =
+    ap (λ (l : List ℕ). take (2048 * count) (drop (2048 * offset) l)) is ∙ sym (sectors_in_block disc i offset count (omega arith)) ∙ ap (λ (m : ℕ). sectors_of disc m count) there in
     let written : into' ≡ put_at (2048 * at) (sectors_of disc (lba + at) count) into = put ∙ ap (λ (l : List ℕ). put_at (2048 * at) l into) part in
     let part_long : length (sectors_of disc (lba + at) count) ≡ 2048 * count = length_sectors disc blocks (lba + at) count (omega arith) long in
     let before : done lba n k ≡ at = done_before lba n k covered in
@@ -89,7 +89,7 @@ whole_block_read lba n j blocks disc into room wholly covered inside long whole 
     let at : ℕ = 16 * i - lba in
     let none : 2048 * (start_in lba i - 16 * i) ≡ 0 = omega arith in
     let count : 2048 * (end_in lba n i - start_in lba i) ≡ 32768 = omega arith in
-    let place : 2048 * (start_in lba i - lba) ≡ 2048 * at = omega arith in
+    let offset : 2048 * (start_in lba i - lba) ≡ 2048 * at = omega arith in
     let after = done_after lba n j covered in
     let next : done lba n (suc j) ≡ at + 16 = omega arith in
     let up_to : 2048 * at + 32768 ≡ 2048 * done lba n (suc j) = omega arith in
@@ -99,7 +99,7 @@ whole_block_read lba n j blocks disc into room wholly covered inside long whole 
     ap (λ (m : ℕ). put_at m (part_of lba n into i) room) none
     ∙ put_at-whole (part_of lba n into i) room (omega (arith, part_long))
     ∙ ap (λ (m : ℕ). take m (drop (2048 * (start_in lba i - lba)) into)) count
-    ∙ ap (λ (m : ℕ). take 32768 (drop m into)) place
+    ∙ ap (λ (m : ℕ). take 32768 (drop m into)) offset
     ∙ sym (drop-take (2048 * at) 32768 into)
     ∙ ap (λ (m : ℕ). drop (2048 * at) (take m into)) up_to
     ∙ ap (drop (2048 * at)) prefix

@@ -33,7 +33,7 @@ fn put_bytes(into: &mut [u8], at: usize, from: &[u8])
 
 impl Part {
     /// The byte of its block at which it begins.
-    fn place(self) -> usize
+    fn offset(self) -> usize
         ensures { result ≡ 2048 * (self.start - 16 * self.block) }
     {
         SECTOR_BYTES * (self.start - SECTORS_PER_BLOCK as u32 * self.block) as usize
@@ -69,9 +69,9 @@ impl Part {
         requires { length into.old ≡ 2048 * self.request.n }
         ensures { into.new ≡ filled_by self.request.lba self.request.n self.block block.now into.old }
     {
-        let place = self.place();
+        let offset = self.offset();
         let len = self.len();
-        put_bytes(into, self.skipped(), &block.bytes()[place..place + len]);
+        put_bytes(into, self.skipped(), &block.bytes()[offset..offset + len]);
     }
 
     /// Merges its sectors, of the bytes of the request, into their block.
@@ -80,11 +80,11 @@ impl Part {
         ensures merged { block.new ≡ merged_in self.request.lba self.request.n from.now self.block block.old }
         ensures len { length block.old ≡ BLOCK_BYTES }
     {
-        let place = self.place();
+        let offset = self.offset();
         let skipped = self.skipped();
         let len = self.len();
         let bytes = block.bytes_mut();
-        put_bytes(bytes, place, &from[skipped..skipped + len]);
+        put_bytes(bytes, offset, &from[skipped..skipped + len]);
     }
 
     /// The bytes of its block with its sectors in their places: straight out of the bytes of the request where it is the whole

@@ -1,3 +1,4 @@
+pub mod Coming
 pub mod Halving
 pub mod Rooms
 pub mod Ending

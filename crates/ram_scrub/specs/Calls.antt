@@ -6,7 +6,7 @@ use Rattle.model_cache.specs.Shown.{CacheShown}
 use Rattle.model_scrub.specs.declared.ends.StepEnd.{StepEnd}
 use Rattle.model_scrub.specs.declared.ends.StepEnd.TheVariants as ends
 use Rattle.model_scrub.specs.Scrubs.{Scrubber, read_well, met_unread}
-use Rattle.model_scrub.specs.Asks.{StepRule, StepsThrough, EndsAs, EndsPass, PassContents}
+use Rattle.model_scrub.specs.Asks.{StepRule, EndsAs, EndsPass, PassContents}
 use Rattle.model_scrub.specs.declared.ends.PassEnd.{PassEnd}
 use Rattle.model_scrub.specs.declared.ends.PassEnd.TheVariants as passes
 use Rattle.model_cache.specs.Values.{Contents}
@@ -71,11 +71,3 @@ abbrev pub PassEndsWithout : CacheShown → PassEnd → Type 0
 PassEndsWithout shown passes.NotFormatted = IsOn shown.drive × ¬ IsFormatted shown.drive
 PassEndsWithout shown passes.Off = ¬ IsOn shown.drive
 PassEndsWithout shown _ = ⊥
-
--- So many steps of a pass were made, and it has come to the next block, on the disc that it had.
-pub record HasCome (old new : CacheShown) (s t : Scrubber) (block : ℕ) : Type 0 where
-  pub went : StepsThrough old new s t block
-  pub on : IsOn new.drive
-  pub formatted : IsFormatted new.drive
-  pub as_many : block_count new.drive ≡ block_count old.drive
-  pub next : t.next ≡ block

@@ -1,4 +1,4 @@
-pub mod Places
+pub mod Search
 pub mod Found
 pub mod Scrub
 pub mod Calls

@@ -5,7 +5,7 @@ ghost use Rattle.std.specs.List.{All};
 ghost use Rattle.std.specs.List.Sorted.{IsStrictlyIncreasing};
 ghost use Rattle.std.proofs.Props.{props};
 ghost use Rattle.ram_sectors.specs.declared.TheConstants.{MOST_BLOCKS};
-ghost use Rattle.ram_scrub.specs.Places.{IsPlaceAt, IsGapAt};
+ghost use Rattle.ram_scrub.specs.Search.{StandsAt, IsGapAt};
 ghost use Rattle.ram_scrub.specs.declared.found.TheConstants.{SCRUB_MEMORY};
 
 use ram_bytes::{Budget, MemoryRefused};
@@ -25,10 +25,10 @@ pub struct FoundBlocks {
     ghost room: { MOST_BLOCKS ≤ vec_capacity numbers },
 }
 
-/// The place of a block among blocks that rise, by halving, or else where it would stand.
-fn place_of(found: &[u32], block: u32) -> Result<usize, usize>
+/// The index of a block among blocks that rise, by halving, or else where it would stand.
+fn search(found: &[u32], block: u32) -> Result<usize, usize>
     requires { IsStrictlyIncreasing found.now }
-    ensures { MatchResult result (IsPlaceAt found.now block) (IsGapAt found.now block) }
+    ensures { MatchResult result (StandsAt found.now block) (IsGapAt found.now block) }
 {
     found.binary_search(&block)
 }
@@ -68,9 +68,9 @@ impl FoundBlocks {
     pub fn drop_from(&mut self, block: u32)
         ensures { blocks_of self.new ≡ filter (λ j. nat_lt j block) (blocks_of self.old) }
     {
-        match place_of(&self.numbers, block) {
-            Ok(place) => self.numbers.truncate(place),
-            Err(place) => self.numbers.truncate(place),
+        match search(&self.numbers, block) {
+            Ok(index) => self.numbers.truncate(index),
+            Err(index) => self.numbers.truncate(index),
         }
     }
 
@@ -79,9 +79,9 @@ impl FoundBlocks {
         requires { block < MOST_BLOCKS }
         ensures { blocks_of self.new ≡ with_found block (blocks_of self.old) }
     {
-        match place_of(&self.numbers, block) {
+        match search(&self.numbers, block) {
             Ok(_) => {}
-            Err(place) => match self.numbers.insert(place, block) {
+            Err(index) => match self.numbers.insert(index, block) {
                 Ok(()) => {}
                 Err(_) => unreachable!(),
             },
@@ -92,9 +92,9 @@ impl FoundBlocks {
     pub fn take_out(&mut self, block: u32)
         ensures { blocks_of self.new ≡ without_block block (blocks_of self.old) }
     {
-        match place_of(&self.numbers, block) {
-            Ok(place) => {
-                self.numbers.remove(place);
+        match search(&self.numbers, block) {
+            Ok(index) => {
+                self.numbers.remove(index);
             }
             Err(_) => {}
         }

@@ -17,7 +17,7 @@ use Rattle.model_places.specs.Valid.{IsValidPdl, IsValidSsa}
 use Rattle.model_places.proofs.ByKind.{cases_kind, zone_pools}
 use Rattle.model_places.proofs.Layouts.{pools_are_lawful, length-logical_in, all_spares_for}
 use Rattle.model_places.proofs.Zones.{zoned_block, zoned_pool}
-use Rattle.ram_slip.specs.Place.{SharesPool}
+use Rattle.ram_slip.specs.Roles.{SharesPool}
 use Rattle.ram_slip.proofs.SpareAreas.{slips_share, zones_share, in_one_zone, both_found}
 use Rattle.ram_slip.proofs.ZonePlaces.{zone_bounds}
 use Rattle.ram_slip.proofs.ZoneSpares.{its_number_is}

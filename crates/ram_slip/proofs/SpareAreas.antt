@@ -15,7 +15,7 @@ use Rattle.model_places.specs.Valid.{IsValidPdl}
 use Rattle.model_places.proofs.ByKind.{cases_kind, slip_room, zone_pools, few_slipped, no_area}
 use Rattle.model_places.proofs.Layouts as layouts
 use Rattle.model_places.proofs.Pools.{length-unslipped}
-use Rattle.ram_slip.specs.Place.{primary_in, supplementary_in, SharesPool, shares_by_kind}
+use Rattle.ram_slip.specs.Roles.{primary_in, supplementary_in, SharesPool, shares_by_kind}
 use Rattle.ram_slip.proofs.ZoneSpares.{spares_many}
 
 -- ---- with one group of spares

@@ -14,7 +14,7 @@ use Rattle.model_places.specs.Places.{slipped, unslipped, count_of, pools_of, pr
 use Rattle.model_places.specs.Valid.{IsValidPdl, IsValidSsa}
 use Rattle.model_places.proofs.Layouts.{one_spares, length-logical_in, pools_are_lawful, spare_is_unslipped}
 use Rattle.model_places.proofs.Pools.{unslipped_are_data, slips_are_all, not_slipped}
-use Rattle.ram_slip.specs.Place.{primary_in}
+use Rattle.ram_slip.specs.Roles.{primary_in}
 use Rattle.ram_slip.proofs.SpareAreas.{primary_one}
 use Rattle.ram_slip.proofs.Slips.{logical_by_place}
 

@@ -7,7 +7,7 @@
 //!
 //! # What is neither
 //!
-//! How fast it is. `place_of` and `spare_turn` look at about twelve entries of a list of 4,092, and go over the zones once.
+//! How fast it is. `role_of` and `spare_turn` look at about twelve entries of a list of 4,092, and go over the zones once.
 //!
 //! # What is trusted
 //!
@@ -17,13 +17,13 @@
 
 mod entries;
 mod few;
-mod place;
+mod role;
 mod slip;
 mod valid;
 mod zones;
 
 pub use few::{is_inside, slipped_in, slips_few};
-pub use place::{Place, a_block_has_one_place};
-pub use slip::{data_block, place_of, primary_left, spare_turn};
+pub use role::{Role, a_block_has_one_role};
+pub use slip::{data_block, role_of, primary_left, spare_turn};
 pub use valid::{is_valid_pdl, is_valid_ssa};
 pub use zones::{shares_pool, zone_count, zone_first};

@@ -6,11 +6,11 @@ ghost use Rattle.model_geometry.specs.Geometry.{IsLawful, data_blocks};
 ghost use Rattle.model_places.specs.Places.{unslipped};
 ghost use Rattle.model_places.specs.Valid.{IsValidPdl, IsValidOnSome};
 ghost use Rattle.ram_dds.specs.Dds.{dds_of};
-ghost use Rattle.ram_slip.specs.Place.{HasRank, IsAtPlace, HasTurn, primary_in};
+ghost use Rattle.ram_slip.specs.Roles.{HasRank, HasRole, HasTurn, primary_in};
 
 use crate::entries::{count_before, is_named};
-use crate::place::Place;
-use crate::zones::{place_in_zone, turn_in_zone};
+use crate::role::Role;
+use crate::zones::{role_in_zone, turn_in_zone};
 use ram_dds::DdsPdl;
 use ram_zones::{Geometry, LayoutKind};
 
@@ -72,23 +72,23 @@ fn rank_of(geometry: &Geometry, dds: &DdsPdl, block: u32) -> Rank
 }
 
 /// What a block that is not slipped is on a disc with one group of spares, by where it stands among all such blocks.
-fn place_in_group(geometry: &Geometry, dds: &DdsPdl, ssa: u32, place: u32) -> Place
+fn role_in_group(geometry: &Geometry, dds: &DdsPdl, ssa: u32, place: u32) -> Role
     requires one { geometry.now.layout ≡ OneGroup }
     requires valid { IsValidPdl geometry.now (dds_of dds.now) }
     requires area { IsValidOnSome geometry.now ssa }
     requires inside { place < length (unslipped geometry.now (dds_of dds.now)) }
-    ensures { IsAtPlace geometry.now (dds_of dds.now) ssa
+    ensures { HasRole geometry.now (dds_of dds.now) ssa
         (slice_index (unslipped geometry.now (dds_of dds.now)) place) result }
 {
     let primary = primary_left(geometry, dds);
     if place < primary {
-        return Place::Primary;
+        return Role::Primary;
     }
     let i = place - primary;
     if i < geometry.data_blocks() - geometry.psa() - ssa {
-        return Place::Logical { i };
+        return Role::Logical { i };
     }
-    Place::Supplementary
+    Role::Supplementary
 }
 
 /// The turn of such a block on a disc with one group of spares, or none where it is no spare.
@@ -119,26 +119,26 @@ fn turn_in_group(geometry: &Geometry, dds: &DdsPdl, ssa: u32, place: u32) -> Opt
 ///
 /// # Answers
 ///
-/// A block is one of these things at most (`a_block_has_one_place`), so each answer comes exactly when it says what the block is.
+/// A block is one of these things at most (`a_block_has_one_role`), so each answer comes exactly when it says what the block is.
 ///
-/// - `Logical`: the block is that logical block. (`IsAtPlace`)
-/// - `Primary`: it is a primary spare. (`IsAtPlace`)
-/// - `Supplementary`: it is a supplementary spare. (`IsAtPlace`)
-/// - `Slipped`: the primary list names it. (`IsAtPlace`)
-/// - `Outside`: it is no data block. (`IsAtPlace`)
-pub fn place_of(geometry: &Geometry, dds: &DdsPdl, ssa: u32, block: u32) -> Place
+/// - `Logical`: the block is that logical block. (`HasRole`)
+/// - `Primary`: it is a primary spare. (`HasRole`)
+/// - `Supplementary`: it is a supplementary spare. (`HasRole`)
+/// - `Slipped`: the primary list names it. (`HasRole`)
+/// - `Outside`: it is no data block. (`HasRole`)
+pub fn role_of(geometry: &Geometry, dds: &DdsPdl, ssa: u32, block: u32) -> Role
     requires valid { IsValidPdl geometry.now (dds_of dds.now) }
     requires area { IsValidOnSome geometry.now ssa }
-    ensures { IsAtPlace geometry.now (dds_of dds.now) ssa block result }
+    ensures { HasRole geometry.now (dds_of dds.now) ssa block result }
 {
     let place = match rank_of(geometry, dds, block) {
-        Rank::Outside => return Place::Outside,
-        Rank::Slipped => return Place::Slipped,
+        Rank::Outside => return Role::Outside,
+        Rank::Slipped => return Role::Slipped,
         Rank::At { place } => place,
     };
     match geometry.layout() {
-        LayoutKind::OneGroup => place_in_group(geometry, dds, ssa, place),
-        LayoutKind::EachZone => place_in_zone(geometry, dds, ssa, place, block),
+        LayoutKind::OneGroup => role_in_group(geometry, dds, ssa, place),
+        LayoutKind::EachZone => role_in_zone(geometry, dds, ssa, place, block),
     }
 }
 

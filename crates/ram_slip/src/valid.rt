@@ -94,7 +94,7 @@ fn may_have(geometry: &Geometry, ssa: u32) -> bool
 ///
 /// # Clauses
 ///
-/// - exactly whether that number of supplementary spares is valid, which `place_of` and `spare_turn` ask for.
+/// - exactly whether that number of supplementary spares is valid, which `role_of` and `spare_turn` ask for.
 ///
 /// # Answers
 ///

@@ -5,10 +5,10 @@ ghost use Rattle.model_geometry.specs.declared.kinds.LayoutKind.TheVariants.{Eac
 ghost use Rattle.model_places.specs.Places.{zone_count, zone_first, unslipped, zones_unslipped};
 ghost use Rattle.model_places.specs.Valid.{IsValidPdl, IsValidOnSome};
 ghost use Rattle.ram_dds.specs.Dds.{dds_of};
-ghost use Rattle.ram_slip.specs.Place.{IsAtPlace, HasTurn, SharesPool};
+ghost use Rattle.ram_slip.specs.Roles.{HasRole, HasTurn, SharesPool};
 
 use crate::entries::count_before;
-use crate::place::Place;
+use crate::role::Role;
 use ram_dds::DdsPdl;
 use ram_zones::{Geometry, LayoutKind};
 
@@ -59,23 +59,23 @@ fn kept_before(geometry: &Geometry, dds: &DdsPdl, zone: u32) -> u32
 }
 
 /// What a block that is not slipped is, by where it stands among all such blocks.
-pub fn place_in_zone(geometry: &Geometry, dds: &DdsPdl, ssa: u32, place: u32, block: u32) -> Place
+pub fn role_in_zone(geometry: &Geometry, dds: &DdsPdl, ssa: u32, place: u32, block: u32) -> Role
     requires each { geometry.now.layout ≡ EachZone }
     requires valid { IsValidPdl geometry.now (dds_of dds.now) }
     requires area { IsValidOnSome geometry.now ssa }
     requires at { slice_get (unslipped geometry.now (dds_of dds.now)) place ≡ Some block }
-    ensures { IsAtPlace geometry.now (dds_of dds.now) ssa block result }
+    ensures { HasRole geometry.now (dds_of dds.now) ssa block result }
 {
     let Some(zone) = geometry.zone_of(block) else {
-        return Place::Outside;
+        return Role::Outside;
     };
     let j = place - kept_before(geometry, dds, zone);
     if j < zone_count(geometry, zone) {
-        return Place::Logical {
+        return Role::Logical {
             i: zone_first(geometry, zone) + j,
         };
     }
-    Place::Primary
+    Role::Primary
 }
 
 /// The turn of such a block, or none where it is no spare. The spares of the zones before come first.

@@ -28,10 +28,10 @@ use Rattle.model_pools.proofs.Free.{free_from_unnamed, unnamed_from_free}
 use Rattle.model_places.proofs.ByKind.{cases_kind, zone_area}
 use Rattle.model_places.proofs.Layouts.{pools_are_lawful}
 use Rattle.model_places.proofs.Pools.{unslipped_rise, slips_are_all}
-use Rattle.ram_slip.specs.declared.place.Place.{Place}
-use Rattle.ram_slip.specs.declared.place.Place.TheVariants as places
-use Rattle.ram_slip.specs.Place.{IsAtPlace, primary_in, supplementary_in}
-use Rattle.ram_slip.proofs.OnePlace.{one_place}
+use Rattle.ram_slip.specs.declared.role.Role.{Role}
+use Rattle.ram_slip.specs.declared.role.Role.TheVariants as roles
+use Rattle.ram_slip.specs.Roles.{HasRole, primary_in, supplementary_in}
+use Rattle.ram_slip.proofs.OneRole.{one_role}
 use Rattle.ram_slip.proofs.SpareAreas.{primary_one, primary_pools, supplementary_one, supplementary_zones, from_primary, from_supplementary}
 
 -- ---- the spares of each area, by the kind of the layout
@@ -206,12 +206,12 @@ pub record AreLeft (shape : Shape) (lists : Lists) (k primary supplementary : �
   pub supplementary_are : supplementary + uses (supplementary_in shape lists.dds lists.sdl.ssa) (take k lists.sdl.entries) ≡ length (supplementary_in shape lists.dds lists.sdl.ssa)
 
 -- what one more entry leaves, by what the spare is that it uses up
-abbrev pub LeavesAt : Shape → Lists → ℕ → ℕ → ℕ → Place → Type 0
-LeavesAt shape lists k primary supplementary places.Primary = (1 ≤ primary) × AreLeft shape lists k (primary - 1) supplementary
-LeavesAt shape lists k primary supplementary places.Supplementary = (1 ≤ supplementary) × AreLeft shape lists k primary (supplementary - 1)
-LeavesAt shape lists k primary supplementary (places.Logical i) = AreLeft shape lists k primary supplementary
-LeavesAt shape lists k primary supplementary places.Slipped = AreLeft shape lists k primary supplementary
-LeavesAt shape lists k primary supplementary places.Outside = AreLeft shape lists k primary supplementary
+abbrev pub LeavesAt : Shape → Lists → ℕ → ℕ → ℕ → Role → Type 0
+LeavesAt shape lists k primary supplementary roles.Primary = (1 ≤ primary) × AreLeft shape lists k (primary - 1) supplementary
+LeavesAt shape lists k primary supplementary roles.Supplementary = (1 ≤ supplementary) × AreLeft shape lists k primary (supplementary - 1)
+LeavesAt shape lists k primary supplementary (roles.Logical i) = AreLeft shape lists k primary supplementary
+LeavesAt shape lists k primary supplementary roles.Slipped = AreLeft shape lists k primary supplementary
+LeavesAt shape lists k primary supplementary roles.Outside = AreLeft shape lists k primary supplementary
 
 module _ (some : List ℕ) (entries : List SdlEntry) (k left x : ℕ) (d : SdlEntry) (below : k < length entries) (is : x ≡ used (get_or entries k d)) (before : left + uses some (take k entries) ≡ length some) where
   test_is : is_listed some (used (get_or entries k d)) ≡ is_listed some x
@@ -274,24 +274,24 @@ module _ (shape : Shape) (lists : Lists) (valid : AreValid shape lists) where
       )
 
   module _ (k primary supplementary x : ℕ) (d : SdlEntry) (below : k < length lists.sdl.entries) (is : x ≡ used (get_or lists.sdl.entries k d)) (before : AreLeft shape lists k primary supplementary) where
-    not_first : (place : Place) → IsAtPlace shape lists.dds lists.sdl.ssa x place → (place ≡ places.Primary → ⊥) → primary + uses (primary_in shape lists.dds) (take (k + 1) lists.sdl.entries) ≡ length (primary_in shape lists.dds)
-    not_first place at other =
+    not_first : (role : Role) → HasRole shape lists.dds lists.sdl.ssa x role → (role ≡ roles.Primary → ⊥) → primary + uses (primary_in shape lists.dds) (take (k + 1) lists.sdl.entries) ≡ length (primary_in shape lists.dds)
+    not_first role at other =
         as_many (primary_in shape lists.dds) lists.sdl.entries k primary x d below is before.primary_are
-        (λ has. other (one_place shape lists.dds lists.sdl.ssa x valid.primary valid.together.secondary.area place places.Primary at has))
+        (λ has. other (one_role shape lists.dds lists.sdl.ssa x valid.primary valid.together.secondary.area role roles.Primary at has))
 
-    not_last : (place : Place) → IsAtPlace shape lists.dds lists.sdl.ssa x place → (place ≡ places.Supplementary → ⊥) → supplementary + uses (supplementary_in shape lists.dds lists.sdl.ssa) (take (k + 1) lists.sdl.entries) ≡ length (supplementary_in shape lists.dds lists.sdl.ssa)
-    not_last place at other =
+    not_last : (role : Role) → HasRole shape lists.dds lists.sdl.ssa x role → (role ≡ roles.Supplementary → ⊥) → supplementary + uses (supplementary_in shape lists.dds lists.sdl.ssa) (take (k + 1) lists.sdl.entries) ≡ length (supplementary_in shape lists.dds lists.sdl.ssa)
+    not_last role at other =
         as_many (supplementary_in shape lists.dds lists.sdl.ssa) lists.sdl.entries k supplementary x d below is before.supplementary_are
-        (λ has. other (one_place shape lists.dds lists.sdl.ssa x valid.primary valid.together.secondary.area place places.Supplementary at has))
+        (λ has. other (one_role shape lists.dds lists.sdl.ssa x valid.primary valid.together.secondary.area role roles.Supplementary at has))
 
     -- one more entry
-    pub left_more : (place : Place) → IsAtPlace shape lists.dds lists.sdl.ssa x place → LeavesAt shape lists (k + 1) primary supplementary place
-    left_more places.Primary at =
+    pub left_more : (role : Role) → HasRole shape lists.dds lists.sdl.ssa x role → LeavesAt shape lists (k + 1) primary supplementary role
+    left_more roles.Primary at =
         let less = one_less (primary_in shape lists.dds) lists.sdl.entries k primary x d below is before.primary_are (omega (arith, primary_area)) at in
-        (less.0, record { primary_are = less.1; supplementary_are = not_last places.Primary at (λ e. absurd cc) })
-    left_more places.Supplementary at =
+        (less.0, record { primary_are = less.1; supplementary_are = not_last roles.Primary at (λ e. absurd cc) })
+    left_more roles.Supplementary at =
         let less = one_less (supplementary_in shape lists.dds lists.sdl.ssa) lists.sdl.entries k supplementary x d below is before.supplementary_are (omega (arith, supplementary_area)) at in
-        (less.0, record { primary_are = not_first places.Supplementary at (λ e. absurd cc); supplementary_are = less.1 })
-    left_more (places.Logical i) at = record { primary_are = not_first (places.Logical i) at (λ e. absurd cc); supplementary_are = not_last (places.Logical i) at (λ e. absurd cc) }
-    left_more places.Slipped at = record { primary_are = not_first places.Slipped at (λ e. absurd cc); supplementary_are = not_last places.Slipped at (λ e. absurd cc) }
-    left_more places.Outside at = record { primary_are = not_first places.Outside at (λ e. absurd cc); supplementary_are = not_last places.Outside at (λ e. absurd cc) }
+        (less.0, record { primary_are = not_first roles.Supplementary at (λ e. absurd cc); supplementary_are = less.1 })
+    left_more (roles.Logical i) at = record { primary_are = not_first (roles.Logical i) at (λ e. absurd cc); supplementary_are = not_last (roles.Logical i) at (λ e. absurd cc) }
+    left_more roles.Slipped at = record { primary_are = not_first roles.Slipped at (λ e. absurd cc); supplementary_are = not_last roles.Slipped at (λ e. absurd cc) }
+    left_more roles.Outside at = record { primary_are = not_first roles.Outside at (λ e. absurd cc); supplementary_are = not_last roles.Outside at (λ e. absurd cc) }

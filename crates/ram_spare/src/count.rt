@@ -8,7 +8,7 @@ ghost use Rattle.ram_spare.specs.Spares.{both_lists};
 use model_lists::SdlEntry;
 use ram_dds::DdsPdl;
 use ram_sdl::Sdl;
-use ram_slip::{Place, place_of, primary_left};
+use ram_slip::{Role, role_of, primary_left};
 use ram_zones::Geometry;
 
 /// How many spares are free, in each of the two areas.
@@ -48,12 +48,12 @@ pub fn counts(geometry: &Geometry, dds: &DdsPdl, sdl: &Sdl) -> SpareCounts
         free_supplementary: sdl.ssa,
     };
     for entry in sdl.entries.as_slice() {
-        match place_of(geometry, dds, sdl.ssa, used_by(*entry)) {
-            Place::Primary => free.free_primary -= 1,
-            Place::Supplementary => free.free_supplementary -= 1,
-            Place::Logical { i: _ } => {}
-            Place::Slipped => {}
-            Place::Outside => {}
+        match role_of(geometry, dds, sdl.ssa, used_by(*entry)) {
+            Role::Primary => free.free_primary -= 1,
+            Role::Supplementary => free.free_supplementary -= 1,
+            Role::Logical { i: _ } => {}
+            Role::Slipped => {}
+            Role::Outside => {}
         }
     }
     free

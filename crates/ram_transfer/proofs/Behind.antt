@@ -96,13 +96,13 @@ module _ (b : List ℕ) (lba n : ℕ) where
   behind_last k many late =
       ap (λ (j : ℕ). touched_from (touched_from b first j) (first + last) (k + 1 - last)) (front_same (is_partly lba n first) k (omega arith))
       ∙ ap (λ (j : ℕ). touched_from (front_numbers k) (first + last) j) next
-      ∙ ap (touched_one (numbers_behind k)) place
+      ∙ ap (touched_one (numbers_behind k)) home
     where
       next : k + 1 - last ≡ suc (k - last)
       next = omega arith
 
-      place : first + last + (k - last) ≡ first + k
-      place = omega arith
+      home : first + last + (k - last) ≡ first + k
+      home = omega arith
 
   -- after all blocks the buffer has those that it would have if none had gone past it
   pub behind_all : 8 ≤ blocks_covered lba n → numbers_behind (blocks_covered lba n) ≡ touched_from b first (blocks_covered lba n)

@@ -27,10 +27,10 @@ module _ {M : Type 0} (world : M → World) (reaches : M → M → Span → Type
     verify_happened (Some before) did = part_happened world reaches takes happens old new _ did.continues
 
   -- the rest of a block was in hand, or was read
-  rest_happened : (old mid : M) (held : List (ℕ × List ℕ)) (lba n i place : ℕ) (rest : List ℕ) (held_mid : List (ℕ × List ℕ)) → HasRest world reaches old held lba n i place mid rest held_mid → IsTrue (world old).power
+  rest_happened : (old mid : M) (held : List (ℕ × List ℕ)) (lba n i home : ℕ) (rest : List ℕ) (held_mid : List (ℕ × List ℕ)) → HasRest world reaches old held lba n i home mid rest held_mid → IsTrue (world old).power
       → Happened takes old mid × IsTrue (world mid).power
-  rest_happened old mid held lba n i place rest held_mid (inl needs) on = (nothing_happened world reaches takes happens old mid needs.unused, subst (λ (m : M). IsTrue (world m).power) (sym needs.unused) on)
-  rest_happened old mid held lba n i place rest held_mid (inr has) on = elim has.fetched.came [
+  rest_happened old mid held lba n i home rest held_mid (inl needs) on = (nothing_happened world reaches takes happens old mid needs.unused, subst (λ (m : M). IsTrue (world m).power) (sym needs.unused) on)
+  rest_happened old mid held lba n i home rest held_mid (inr has) on = elim has.fetched.came [
     | inl there ↦ (nothing_happened world reaches takes happens old mid there.unused, subst (λ (m : M). IsTrue (world m).power) (sym there.unused) on)
     | inr home ↦ (part_happened world reaches takes happens old mid 1 home.continues, home.continues.is_on)
   ]
@@ -41,7 +41,7 @@ module _ {M : Type 0} (world : M → World) (reaches : M → M → Span → Type
     wrote_happened lists' held' outs.Good did = happened_then takes old did.mid new (rest_happened old did.mid held lba n i _ did.rest did.held_mid did.has on).0 (part_happened world reaches takes happens did.mid new _ did.then_did.puts.continues)
     wrote_happened lists' held' outs.NotFormatted did = absurd did
     wrote_happened lists' held' (outs.Range capacity) did = absurd did
-    wrote_happened lists' held' (outs.Unread named place) did = part_happened world reaches takes happens old new 1 did.lacks.unread.continues
+    wrote_happened lists' held' (outs.Unread named home) did = part_happened world reaches takes happens old new 1 did.lacks.unread.continues
     wrote_happened lists' held' (outs.NoSpare named) did = happened_then takes old did.mid new (rest_happened old did.mid held lba n i _ did.rest did.held_mid did.has on).0 (part_happened world reaches takes happens did.mid new _ did.then_did.finds.leaves.continues)
     wrote_happened lists' held' (outs.NoUpdate counter) did = happened_then takes old did.mid new (rest_happened old did.mid held lba n i _ did.rest did.held_mid did.has on).0 (part_happened world reaches takes happens did.mid new _ did.then_did.finds.leaves.continues)
     wrote_happened lists' held' outs.Cut did = absurd did

@@ -93,8 +93,8 @@ module _ {M : Type 0} (world : M → World) (block_count : M → ℕ) (reaches :
     abbrev i : ℕ
     i = block_with lba + k
 
-    abbrev place : ℕ
-    place = home_of shape lists i
+    abbrev home : ℕ
+    home = home_of shape lists i
 
     -- a block of a long request was not buffered at first
     lacked : ¬ IsTrue (is_buffered (numbers_in held) i)
@@ -110,17 +110,17 @@ module _ {M : Type 0} (world : M → World) (block_count : M → ℕ) (reaches :
     pub none_at_turn : bytes_at i held' ≡ None
     none_at_turn = none_there i held' not_there
 
-    fetched_due : (new : M) (bytes : List ℕ) (held'' : List (ℕ × List ℕ)) → IsFetched world reaches mid new held' i place bytes held'' → IsFetched world reaches mid new due i place bytes (with_newest i bytes due)
+    fetched_due : (new : M) (bytes : List ℕ) (held'' : List (ℕ × List ℕ)) → IsFetched world reaches mid new held' i home bytes held'' → IsFetched world reaches mid new due i home bytes (with_newest i bytes due)
     fetched_due new bytes held'' fetched = record { buffer_is = refl; came = came fetched.came; few = behind.few_due }
       where
-        came : FromBuffer world reaches mid new held' i place bytes ⊎ FromHome world reaches mid new held' i place bytes → FromBuffer world reaches mid new due i place bytes ⊎ FromHome world reaches mid new due i place bytes
+        came : FromBuffer world reaches mid new held' i home bytes ⊎ FromHome world reaches mid new held' i home bytes → FromBuffer world reaches mid new due i home bytes ⊎ FromHome world reaches mid new due i home bytes
         came (inl from) = absurd (not_there (bytes_at_some i held' bytes from.was_there))
         came (inr from) = inr (record { continues = from.continues; not_buffered = not_due; same_cells = from.same_cells; gives = from.gives })
 
-    unread_due : (new : M) (held'' : List (ℕ × List ℕ)) → CannotBeRead world reaches mid new held' i place held'' → CannotBeRead world reaches mid new due i place due
+    unread_due : (new : M) (held'' : List (ℕ × List ℕ)) → CannotBeRead world reaches mid new held' i home held'' → CannotBeRead world reaches mid new due i home due
     unread_due new held'' unread = record { continues = unread.continues; not_buffered = not_due; buffer_is = refl; dies = unread.dies; not_good = unread.not_good; few = behind.few_due }
 
-    stopped_due : (new : M) (stop : Stop) → FetchStopped world reaches mid new held' i place stop → FetchStopped world reaches mid new due i place stop
+    stopped_due : (new : M) (stop : Stop) → FetchStopped world reaches mid new held' i home stop → FetchStopped world reaches mid new due i home stop
     stopped_due new stop stopped = record { stops = stopped.stops; not_buffered = not_due; dies = stopped.dies; few = behind.few_due }
 
   -- a block that goes past the buffer may do so
@@ -282,12 +282,12 @@ module _ {M : Type 0} (world : M → World) (block_count : M → ℕ) (reaches :
             by : (bytes_at (from + t) mid' ≡ Some newest.bytes) ⊎ ((bytes_at (from + t) mid' ≡ None) × (length room ≡ 32768) × (newest.bytes ≡ merged_in lba n into' (from + t) room)) → newest.bytes ≡ block_of disc (from + t)
             by (inl there) = holds_found disc (from + t) mid' newest.bytes holds there
             by (inr out) =
-                let place : from + t ≡ block_with lba + (k - 8 + t) = omega arith in
+                let home : from + t ≡ block_with lba + (k - 8 + t) = omega arith in
                 let below : done lba n (suc (k - 8 + t)) ≤ done lba n k = omega arith in
-                out.2 ∙ ap (λ (j : ℕ). merged_in lba n into' j room) place
+                out.2 ∙ ap (λ (j : ℕ). merged_in lba n into' j room) home
                 ∙ whole_block_read lba n (k - 8 + t) (logical_count shape lists) disc into' room (whole_put t mid' less puts out.0) (omega arith) inside stood.1.fits.as_long whole out.1
                 (shorter disc into' lba (done lba n (suc (k - 8 + t))) (done lba n k) below (prefix disc stood))
-                ∙ ap (block_of disc) (sym place)
+                ∙ ap (block_of disc) (sym home)
 
         puts_hold : (disc : List ℕ) → StoodFor shape lists (world old) held disc → (t : ℕ) (after : List (ℕ × List ℕ)) → t ≤ k - (k - 8) → PutsFrom lba n into' from t held'' after → HoldsBlocksOf disc after
         puts_hold disc stood zero after le same = subst (HoldsBlocksOf disc) (sym (same ∙ did.unread.buffer_is)) (ahead.kept.holds disc stood)

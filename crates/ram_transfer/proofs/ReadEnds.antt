@@ -39,24 +39,24 @@ module _ {M : Type 0} (world : M → World) (block_count : M → ℕ) (reaches :
     abbrev i : ℕ
     i = block_with lba + k
 
-    abbrev place : ℕ
-    place = home_of shape lists i
+    abbrev home : ℕ
+    home = home_of shape lists i
 
     not_hand : ¬ IsTrue (is_buffered (numbers_in held') i) → ¬ IsTrue (is_at_hand b (block_with lba) k)
     not_hand not_buffered = not_at_hand world block_count reaches laws shape lists old mid held held' lba n k so_far.read not_buffered
 
-    ends_here : ¬ IsTrue (is_buffered (numbers_in held') i) → length held' ≤ BUFFERED_BLOCKS → DiesAtMost (world mid).cells (world new).cells place
+    ends_here : ¬ IsTrue (is_buffered (numbers_in held') i) → length held' ≤ BUFFERED_BLOCKS → DiesAtMost (world mid).cells (world new).cells home
         → EndsInBlock world reaches old new held shape lists lba n k
     ends_here not_buffered few dies = record {
       covered = covered;
       not_at_hand = not_hand not_buffered;
       few = few_before_uses b (block_with lba) k held' so_far.read.touched so_far.read.few few;
-      dies = subst (λ (l : List Cell). DiesAtMost l (world new).cells place) so_far.read.same_cells dies;
+      dies = subst (λ (l : List Cell). DiesAtMost l (world new).cells home) so_far.read.same_cells dies;
     }
 
     -- and its home has no whole bytes
     module _ (valid : AreValid shape lists) (inside : lba + n ≤ 16 * logical_count shape lists) (held'' : List (ℕ × List ℕ))
-        (did : CannotBeRead world reaches mid new held' i place held'') where
+        (did : CannotBeRead world reaches mid new held' i home held'') where
       within : i < logical_count shape lists
       within = covered_inside lba n k (logical_count shape lists) inside covered
 
@@ -82,7 +82,7 @@ module _ {M : Type 0} (world : M → World) (block_count : M → ℕ) (reaches :
       }
 
     -- or its fetch was stopped
-    pub read_stops : (stop : Stop) → FetchStopped world reaches mid new held' i place stop → StopsInBlock world reaches old new held shape lists lba n stop
+    pub read_stops : (stop : Stop) → FetchStopped world reaches mid new held' i home stop → StopsInBlock world reaches old new held shape lists lba n stop
     read_stops stop did = record {
       before = k;
       ended = ends_here did.not_buffered did.few did.dies;

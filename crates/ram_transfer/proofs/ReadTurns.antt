@@ -61,8 +61,8 @@ module _ {M : Type 0} (world : M → World) (block_count : M → ℕ) (reaches :
     abbrev i : ℕ
     i = block_with lba + k
 
-    abbrev place : ℕ
-    place = home_of shape lists i
+    abbrev home : ℕ
+    home = home_of shape lists i
 
     -- whether it is buffered now is whether it is at hand
     hand_is : is_at_hand b (block_with lba) k ≡ is_buffered (numbers_in held') i
@@ -82,9 +82,9 @@ module _ {M : Type 0} (world : M → World) (block_count : M → ℕ) (reaches :
         pub same_cells : (world new).cells ≡ (world mid).cells
         pub unused : read_uses b (block_with lba) (suc k) ≡ 0 → new ≡ old
         pub is_block : (disc : List ℕ) → StoodFor shape lists (world old) held disc → i < logical_count shape lists → bytes ≡ block_of disc i
-        pub has_bytes : (world old).known ≡ true → IsGood (cell_at (world new).cells place) ⊎ IsTrue (is_buffered b i)
+        pub has_bytes : (world old).known ≡ true → IsGood (cell_at (world new).cells home) ⊎ IsTrue (is_buffered b i)
 
-      turned_by_buffer : FromBuffer world reaches mid new held' i place bytes → Turned
+      turned_by_buffer : FromBuffer world reaches mid new held' i home bytes → Turned
       turned_by_buffer from =
           let hand : is_at_hand b (block_with lba) k ≡ true = hand_is ∙ bytes_at_some i held' bytes from.was_there in
           let same : read_uses b (block_with lba) (suc k) ≡ read_uses b (block_with lba) k = no_use_at_hand b (block_with lba) k hand in
@@ -97,12 +97,12 @@ module _ {M : Type 0} (world : M → World) (block_count : M → ℕ) (reaches :
             has_bytes = λ known. inr (at_hand_was_buffered b (block_with lba) k hand);
           }
 
-      turned_by_home : FromHome world reaches mid new held' i place bytes → Turned
+      turned_by_home : FromHome world reaches mid new held' i home bytes → Turned
       turned_by_home from =
           let one : read_uses b (block_with lba) (suc k) ≡ read_uses b (block_with lba) k + 1 = one_use_of_medium b (block_with lba) k (not_at_hand from.not_buffered) in
-          let here : (world old).known ≡ true → cell_at (world new).cells place ≡ Good bytes =
-          λ known. where_known (world mid).known (cell_at (world new).cells place ≡ Good bytes) (known_still known) from.gives in
-          let before : cell_at (world new).cells place ≡ cell_at (world old).cells place = ap (λ (l : List Cell). cell_at l place) (from.same_cells ∙ so_far.same_cells) in
+          let here : (world old).known ≡ true → cell_at (world new).cells home ≡ Good bytes =
+          λ known. where_known (world mid).known (cell_at (world new).cells home ≡ Good bytes) (known_still known) from.gives in
+          let before : cell_at (world new).cells home ≡ cell_at (world old).cells home = ap (λ (l : List Cell). cell_at l home) (from.same_cells ∙ so_far.same_cells) in
           record {
             continues = subst (λ (uses : ℕ). Continues world reaches old new uses) (sym one)
                 (continues_then world block_count reaches laws old mid new (read_uses b (block_with lba) k) 1 so_far.continues from.continues);
@@ -112,10 +112,10 @@ module _ {M : Type 0} (world : M → World) (block_count : M → ℕ) (reaches :
             has_bytes = λ known. inl (subst IsGood (sym (here known)) tt);
           }
 
-      turned : IsFetched world reaches mid new held' i place bytes held'' → Turned
+      turned : IsFetched world reaches mid new held' i home bytes held'' → Turned
       turned fetched = elim fetched.came [ inl from ↦ turned_by_buffer from | inr from ↦ turned_by_home from ]
 
-      module _ (fetched : IsFetched world reaches mid new held' i place bytes held'') (within : i < logical_count shape lists) where
+      module _ (fetched : IsFetched world reaches mid new held' i home bytes held'') (within : i < logical_count shape lists) where
         turn : Turned
         turn = turned fetched
 

@@ -55,8 +55,8 @@ module _ {M : Type 0} (world : M → World) (block_count : M → ℕ) (reaches :
   abbrev i : ℕ
   i = block_with lba + k
 
-  abbrev place : ℕ
-  place = home_of shape lists i
+  abbrev home : ℕ
+  home = home_of shape lists i
 
   -- whether it is buffered now is whether it is at hand
   hand_is : is_at_hand b (block_with lba) k ≡ is_buffered (numbers_in held) i
@@ -70,7 +70,7 @@ module _ {M : Type 0} (world : M → World) (block_count : M → ℕ) (reaches :
   one_use partly missing = rest_missing (is_partly lba n i) (is_at_hand b (block_with lba) k) partly (λ here. missing (sym hand_is ∙ here))
 
   module _ (new : M) (rest : List ℕ) (held' : List (ℕ × List ℕ)) where
-    pub rest_continues : IsTrue (world old).power → HasRest world reaches old held lba n i place new rest held' → Continues world reaches old new (uses_of_rest b lba n k)
+    pub rest_continues : IsTrue (world old).power → HasRest world reaches old held lba n i home new rest held' → Continues world reaches old new (uses_of_rest b lba n k)
     rest_continues on (inl none) =
         subst (λ (m : M). Continues world reaches old m (uses_of_rest b lba n k)) (sym none.unused)
         (subst (Continues world reaches old old) (sym (rest_whole (is_partly lba n i) (is_at_hand b (block_with lba) k) none.wholly)) (continues_none world block_count reaches laws old on))
@@ -82,19 +82,19 @@ module _ {M : Type 0} (world : M → World) (block_count : M → ℕ) (reaches :
     ]
 
     -- no cell changed
-    pub rest_cells : HasRest world reaches old held lba n i place new rest held' → (world new).cells ≡ (world old).cells
+    pub rest_cells : HasRest world reaches old held lba n i home new rest held' → (world new).cells ≡ (world old).cells
     rest_cells (inl none) = ap (λ (m : M). (world m).cells) none.unused
     rest_cells (inr got) = elim got.fetched.came [ inl from ↦ ap (λ (m : M). (world m).cells) from.unused | inr home ↦ home.same_cells ]
 
     -- the buffered blocks, where the block is written then
-    pub rest_put : HasRest world reaches old held lba n i place new rest held' → touched_one (numbers_in held') i ≡ touched_one (numbers_in held) i
+    pub rest_put : HasRest world reaches old held lba n i home new rest held' → touched_one (numbers_in held') i ≡ touched_one (numbers_in held) i
     rest_put (inl none) = ap (λ (l : List (ℕ × List ℕ)). touched_one (numbers_in l) i) none.same_buffer
     rest_put (inr got) =
         ap (λ (l : List (ℕ × List ℕ)). touched_one (numbers_in l) i) got.fetched.buffer_is
         ∙ ap (λ (l : List ℕ). touched_one l i) (numbers_in-with_newest i rest held) ∙ touched_twice (numbers_in held) i
 
     -- and where it is refused
-    pub rest_refused : HasRest world reaches old held lba n i place new rest held' → numbers_in held' ≡ touched_refused b lba n k
+    pub rest_refused : HasRest world reaches old held lba n i home new rest held' → numbers_in held' ≡ touched_refused b lba n k
     rest_refused (inl none) =
         ap numbers_in none.same_buffer ∙ touched
         ∙ sym (cond-false (is_partly lba n i) (touched_from b (block_with lba) (suc k)) (touched_from b (block_with lba) k) (false_of (is_partly lba n i) none.wholly))
@@ -104,20 +104,20 @@ module _ {M : Type 0} (world : M → World) (block_count : M → ℕ) (reaches :
 
     -- What was fetched is the block of the disc that fits.
     module _ (disc : List ℕ) (known : (world old).known ≡ true) (fits : FitsUnder shape (world old).cells lists disc) (holds : HoldsBlocksOf disc held) (within : i < logical_count shape lists) where
-      fetched_is : IsFetched world reaches old new held i place rest held' → rest ≡ block_of disc i
+      fetched_is : IsFetched world reaches old new held i home rest held' → rest ≡ block_of disc i
       fetched_is fetched = elim fetched.came [
         | inl from ↦ holds_found disc i held rest holds from.was_there
         | inr home ↦
-            let here : cell_at (world old).cells place ≡ Good rest = ap (λ (l : List Cell). cell_at l place) (sym home.same_cells) ∙ where_known (world old).known (cell_at (world new).cells place ≡ Good rest) known home.gives in
+            let here : cell_at (world old).cells home ≡ Good rest = ap (λ (l : List Cell). cell_at l home) (sym home.same_cells) ∙ where_known (world old).known (cell_at (world new).cells home ≡ Good rest) known home.gives in
             subst (λ (c : Cell). Agrees c (block_of disc i)) here (fits.agrees i within)
       ]
 
-      pub rest_holds : HasRest world reaches old held lba n i place new rest held' → HoldsBlocksOf disc held'
+      pub rest_holds : HasRest world reaches old held lba n i home new rest held' → HoldsBlocksOf disc held'
       rest_holds (inl none) = subst (HoldsBlocksOf disc) (sym none.same_buffer) holds
       rest_holds (inr got) = subst (HoldsBlocksOf disc) (sym got.fetched.buffer_is) (holds_newest disc i rest held (fetched_is got.fetched) holds)
 
       -- so the part is merged into that block, or is all of it
-      pub merged_is : HasRest world reaches old held lba n i place new rest held' → (bytes : List ℕ) → length bytes ≡ 2048 * n → length rest ≡ 32768
+      pub merged_is : HasRest world reaches old held lba n i home new rest held' → (bytes : List ℕ) → length bytes ≡ 2048 * n → length rest ≡ 32768
           → merged_in lba n bytes i rest ≡ merged_in lba n bytes i (block_of disc i)
       merged_is (inl none) bytes whole full =
           merged_whole lba n bytes i rest (block_of disc i) none.wholly whole full (length_block disc (logical_count shape lists) i within fits.as_long)

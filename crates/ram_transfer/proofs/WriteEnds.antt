@@ -108,9 +108,9 @@ module _ {M : Type 0} (world : M → World) (block_count : M → ℕ) (reaches :
             by_answer outs.Good bad part = absurd (bad refl)
             by_answer outs.NotFormatted bad part = absurd part
             by_answer (outs.Range capacity) bad part = absurd part
-            by_answer (outs.Unread named place) bad part =
+            by_answer (outs.Unread named home) bad part =
                 meets_unread world block_count reaches takes arms armed_cut rules laws shape old mid lists reached held held_mid lba n bytes did.course did.blocks valid inside whole few
-                new part.rest held' part.lacks named part.named_is place part.place_is lists' part.same
+                new part.rest held' part.lacks named part.named_is home part.home_is lists' part.same
             by_answer (outs.NoSpare named) bad part =
                 meets_no_spare world block_count reaches takes arms armed_cut rules laws shape old mid lists reached held held_mid lba n bytes did.course did.blocks valid inside whole few
                 part.mid part.rest part.held_mid part.has part.full new lists' held' part.then_did.buffer_is part.then_did.finds named part.then_did.named_is

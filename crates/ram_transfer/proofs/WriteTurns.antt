@@ -101,8 +101,8 @@ module _ {M : Type 0} (world : M → World) (block_count : M → ℕ) (reaches :
     abbrev i : ℕ
     i = block_with lba + length course
 
-    abbrev place : ℕ
-    place = home_of shape reached i
+    abbrev home : ℕ
+    home = home_of shape reached i
 
     abbrev before : Shown
     before = under old lists held
@@ -132,7 +132,7 @@ module _ {M : Type 0} (world : M → World) (block_count : M → ℕ) (reaches :
     known_mid disc stood = did.wrote.ends.reach.lasts.as_known ∙ stood.0
 
     -- the home of the block is as it was before the write
-    untouched : cell_at (world mid).cells place ≡ cell_at (world old).cells place
+    untouched : cell_at (world mid).cells home ≡ cell_at (world old).cells home
     untouched =
         subst (λ (b : ℕ). cell_at (world mid).cells b ≡ cell_at (world old).cells b) (sym home_is)
         (did.wrote.wrote.only (home_of shape lists i)
@@ -141,7 +141,7 @@ module _ {M : Type 0} (world : M → World) (block_count : M → ℕ) (reaches :
         (λ area same. no_data_block_sdl shape area (subst (Contains (data_blocks shape)) same (home_is_data_block shape lists valid i within_old)))
         (λ area same. no_data_block_second shape area (subst (Contains (data_blocks shape)) same (home_is_data_block shape lists valid i within_old))))
       where
-        home_is : place ≡ home_of shape lists i
+        home_is : home ≡ home_of shape lists i
         home_is = ap (λ (l : Lists). home_of shape l i) did.wrote.wrote.reached_are ∙ after_later shape lists (block_with lba) valid course did.wrote.wrote.can i (omega arith) within_old
 
         apart : (j : ℕ) → j < length course → i ≡ block_with lba + j → ⊥
@@ -167,7 +167,7 @@ module _ {M : Type 0} (world : M → World) (block_count : M → ℕ) (reaches :
           steps (Off discs) stood = absurd (stood.1 was_on)
 
       -- in the look for its rest
-      pub rest_stopped : (stop : Stop) → RestStopped world reaches mid held_mid lba n i place new stop → StopsParts shape (machine old) (machine new) lists held lba n bytes stop
+      pub rest_stopped : (stop : Stop) → RestStopped world reaches mid held_mid lba n i home new stop → StopsParts shape (machine old) (machine new) lists held lba n bytes stop
       rest_stopped stop halted =
           stopped_parts stop
           (rest_stop_turn before now off lba n course lists reached did.wrote valid covered stop stops_there
@@ -187,30 +187,30 @@ module _ {M : Type 0} (world : M → World) (block_count : M → ℕ) (reaches :
           is_off = stop_off (machine mid) (machine new) 1 stop stops_there
 
           dies : AreSameOrDead (world mid).cells (world new).cells
-          dies = one_dies now off place (record { others = halted.stopped.dies.others; left = halted.stopped.dies.left })
+          dies = one_dies now off home (record { others = halted.stopped.dies.others; left = halted.stopped.dies.left })
 
           covers : (disc : List ℕ) → StandsFor before (On disc) → Cover shape (world new).cells (disc_after disc lba n bytes (length course) ∷ disc_after disc lba n bytes (length course + 1) ∷ [])
           covers disc stood = cover_dies shape (world mid).cells (world new).cells dies (disc_after disc lba n bytes (length course) ∷ disc_after disc lba n bytes (length course + 1) ∷ [])
               (λ other given. inl (subst (λ (l : Lists). FitsUnder shape (world mid).cells l (disc_after disc lba n bytes (length course))) (sym (settled_alone shape (world mid).cells reached other did.settled reached_ok.together.same_version given)) (did.makes disc stood)))
 
     -- Its rest cannot be read.
-    module _ (new : M) (rest : List ℕ) (held' : List (ℕ × List ℕ)) (lacks : LacksItsRest world reaches mid held_mid lba n i place new rest held') (named : ℕ) (named_is : named ≡ start_in lba i) where
+    module _ (new : M) (rest : List ℕ) (held' : List (ℕ × List ℕ)) (lacks : LacksItsRest world reaches mid held_mid lba n i home new rest held') (named : ℕ) (named_is : named ≡ start_in lba i) where
       unread_dies : AreSameOrDead (world mid).cells (world new).cells
-      unread_dies = one_dies now (under new reached held_mid) place (record { others = lacks.unread.dies.others; left = lacks.unread.dies.left })
+      unread_dies = one_dies now (under new reached held_mid) home (record { others = lacks.unread.dies.others; left = lacks.unread.dies.left })
 
       unread_goes : Continues (λ (m : Machine). m.world) ReachBy (machine mid) (machine new) 1
       unread_goes = machine_continues world reaches takes arms armed_cut laws mid new 1 lacks.unread.continues
 
-      unread_cause : LacksRest before (under new reached held_mid) lba n named place
+      unread_cause : LacksRest before (under new reached held_mid) lba n named home
       unread_cause =
           lacks_rest before now (under new reached held_mid) lba n course lists reached did.wrote valid covered
           (λ block home free sdl second. lacks.unread.dies.others block home) (λ block was. unread_goes.reach.lasts.stays_dead block was)
-          named place (record { covered = covered; first = named_is })
+          named home (record { covered = covered; first = named_is })
           (reads_it world block_count reaches rules shape reached mid held_mid (numbers_in held) lba n (length course) did.wrote.buffered_are lacks.partly lacks.unread.not_buffered)
           unread_goes refl refl refl refl lacks.unread.not_good
-          (subst (λ (c : Cell). IsSameOrDead c (cell_at (world new).cells place)) untouched lacks.unread.dies.left)
+          (subst (λ (c : Cell). IsSameOrDead c (cell_at (world new).cells home)) untouched lacks.unread.dies.left)
 
-      unread_steps : WriteSteps before (under new reached held_mid) lba n bytes (outs.Unread named place)
+      unread_steps : WriteSteps before (under new reached held_mid) lba n bytes (outs.Unread named home)
       unread_steps (On disc) stood =
           subst (λ (j : ℕ). StandsFor (under new reached held_mid) (On (replaced disc lba bytes j))) (sym (ap block_with named_is ∙ block_with_start lba n (length course) covered)) (
             unread_goes.reach.lasts.as_known ∙ known_mid disc stood,
@@ -224,7 +224,7 @@ module _ {M : Type 0} (world : M → World) (block_count : M → ℕ) (reaches :
           )
       unread_steps (Off discs) stood = absurd (stood.1 was_on)
 
-      unread_ends : EndsParts shape (machine old) (machine new) lists held lba n bytes reached held_mid (outs.Unread named place)
+      unread_ends : EndsParts shape (machine old) (machine new) lists held lba n bytes reached held_mid (outs.Unread named home)
       unread_ends = record {
         cause = unread_cause;
         steps = unread_steps;
@@ -233,14 +233,14 @@ module _ {M : Type 0} (world : M → World) (block_count : M → ℕ) (reaches :
         same_dds = did.same_dds;
       }
 
-      pub meets_unread : (block : ℕ) → block ≡ place → (lists' : Lists) → lists' ≡ reached → EndsParts shape (machine old) (machine new) lists held lba n bytes lists' held' (outs.Unread named block)
+      pub meets_unread : (block : ℕ) → block ≡ home → (lists' : Lists) → lists' ≡ reached → EndsParts shape (machine old) (machine new) lists held lba n bytes lists' held' (outs.Unread named block)
       meets_unread block block_is lists' same =
           subst (λ (b : ℕ). EndsParts shape (machine old) (machine new) lists held lba n bytes lists' held' (outs.Unread named b)) (sym block_is)
-          (subst (λ (l : Lists). EndsParts shape (machine old) (machine new) lists held lba n bytes l held' (outs.Unread named place)) (sym same)
-          (subst (λ (h : List (ℕ × List ℕ)). EndsParts shape (machine old) (machine new) lists held lba n bytes reached h (outs.Unread named place)) (sym lacks.unread.buffer_is) unread_ends))
+          (subst (λ (l : Lists). EndsParts shape (machine old) (machine new) lists held lba n bytes l held' (outs.Unread named home)) (sym same)
+          (subst (λ (h : List (ℕ × List ℕ)). EndsParts shape (machine old) (machine new) lists held lba n bytes reached h (outs.Unread named home)) (sym lacks.unread.buffer_is) unread_ends))
 
     -- Its rest was in hand, and its part of the request was merged into it.
-    module _ (at : M) (rest : List ℕ) (held_at : List (ℕ × List ℕ)) (has : HasRest world reaches mid held_mid lba n i place at rest held_at) (full : length rest ≡ 32768) where
+    module _ (at : M) (rest : List ℕ) (held_at : List (ℕ × List ℕ)) (has : HasRest world reaches mid held_mid lba n i home at rest held_at) (full : length rest ≡ 32768) where
       abbrev put : List ℕ
       put = merged_in lba n bytes i rest
 

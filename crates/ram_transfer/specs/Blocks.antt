@@ -17,12 +17,12 @@ pub record DiesAtMost (old new : List Cell) (block : ℕ) : Type 0 where
   pub left : IsSameOrDead (cell_at old block) (cell_at new block)
 
 module _ {M : Type 0} (world : M → World) (reaches : M → M → Span → Type 0) (old new : M)
-    (held : List (ℕ × List ℕ)) (i place : ℕ) where
+    (held : List (ℕ × List ℕ)) (i home : ℕ) where
   -- a fetch was stopped: the block was not buffered, and its home is as it was or dead
   pub record FetchStopped (stop : Stop) : Type 0 where
     pub stops : Stops world reaches old new 1 stop
     pub not_buffered : ¬ IsTrue (is_buffered (numbers_in held) i)
-    pub dies : DiesAtMost (world old).cells (world new).cells place
+    pub dies : DiesAtMost (world old).cells (world new).cells home
     pub few : length held ≤ BUFFERED_BLOCKS
 
   -- the block is not buffered, and its home has no whole bytes
@@ -30,8 +30,8 @@ module _ {M : Type 0} (world : M → World) (reaches : M → M → Span → Type
     pub continues : Continues world reaches old new 1
     pub not_buffered : ¬ IsTrue (is_buffered (numbers_in held) i)
     pub buffer_is : held' ≡ held
-    pub dies : DiesAtMost (world old).cells (world new).cells place
-    pub not_good : ¬ IsGood (cell_at (world new).cells place)
+    pub dies : DiesAtMost (world old).cells (world new).cells home
+    pub not_good : ¬ IsGood (cell_at (world new).cells home)
     pub few : length held ≤ BUFFERED_BLOCKS
 
   module _ (bytes : List ℕ) where
@@ -45,7 +45,7 @@ module _ {M : Type 0} (world : M → World) (reaches : M → M → Span → Type
       pub continues : Continues world reaches old new 1
       pub not_buffered : ¬ IsTrue (is_buffered (numbers_in held) i)
       pub same_cells : (world new).cells ≡ (world old).cells
-      pub gives : OnTrue (world old).known (cell_at (world new).cells place ≡ Good bytes)
+      pub gives : OnTrue (world old).known (cell_at (world new).cells home ≡ Good bytes)
 
     module _ (held' : List (ℕ × List ℕ)) where
       -- the block was fetched, and is buffered

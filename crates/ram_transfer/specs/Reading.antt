@@ -66,11 +66,11 @@ PutsFrom lba n into first (suc count) held held' = (mid : List (ℕ × List ℕ)
 
 module _ {M : Type 0} (world : M → World) (reaches : M → M → Span → Type 0) (old new : M)
     (held : List (ℕ × List ℕ)) where
-  module _ (lba n i place : ℕ) where
+  module _ (lba n i home : ℕ) where
     -- the block was fetched, with these bytes, and what the request covers of it was copied
     pub record IsCopied (held' : List (ℕ × List ℕ)) (into into' : List ℕ) : Type 0 where
       pub bytes : List ℕ
-      pub fetched : IsFetched world reaches old new held i place bytes held'
+      pub fetched : IsFetched world reaches old new held i home bytes held'
       pub copied : into' ≡ filled_by lba n i bytes into
 
     module _ (past : Bool) (held' : List (ℕ × List ℕ)) (into into' : List ℕ) where
@@ -82,7 +82,7 @@ module _ {M : Type 0} (world : M → World) (reaches : M → M → Span → Type
 
       -- its block cannot be read, and the parts before it are as they were
       pub record IsUnreadPart : Type 0 where
-        pub unread : CannotBeRead world reaches old new held i place held'
+        pub unread : CannotBeRead world reaches old new held i home held'
         pub before : KeepsBefore lba i into into'
 
       -- what a read of a part does, by whether its block can be read

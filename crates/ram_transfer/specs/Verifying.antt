@@ -12,13 +12,13 @@ use Rattle.ram_transfer.specs.Blocks.{DiesAtMost}
 module _ {M : Type 0} (world : M → World) (reaches : M → M → Span → Type 0) (old new : M) (shape : Shape) (lists : Lists)
     (lba : ℕ) where
   -- the home of the block after n
-  abbrev pub place_after : ℕ → ℕ
-  place_after before = home_of shape lists (block_with lba + before)
+  abbrev pub home_after : ℕ → ℕ
+  home_after before = home_of shape lists (block_with lba + before)
 
   -- each of the first n homes has whole bytes
   abbrev pub HaveWholeHomes : ℕ → Type 0
   HaveWholeHomes count = (world old).known ≡ true
-      → (k : ℕ) → k < count → IsGood (cell_at (world new).cells (place_after k))
+      → (k : ℕ) → k < count → IsGood (cell_at (world new).cells (home_after k))
 
   -- the homes of the first k blocks of the request were read
   pub record HasVerifiedUpTo (k : ℕ) : Type 0 where
@@ -32,15 +32,15 @@ module _ {M : Type 0} (world : M → World) (reaches : M → M → Span → Type
       pub covered : before < blocks_covered lba n
       pub continues : Continues world reaches old new (before + 1)
       pub good : HaveWholeHomes before
-      pub not_good : ¬ IsGood (cell_at (world new).cells (place_after before))
-      pub dies : DiesAtMost (world old).cells (world new).cells (place_after before)
+      pub not_good : ¬ IsGood (cell_at (world new).cells (home_after before))
+      pub dies : DiesAtMost (world old).cells (world new).cells (home_after before)
 
     -- the verification was stopped in some block
     pub record StopsAtHome (stop : Stop) : Type 0 where
       pub before : ℕ
       pub covered : before < blocks_covered lba n
       pub stops : Stops world reaches old new (blocks_covered lba n) stop
-      pub dies : DiesAtMost (world old).cells (world new).cells (place_after before)
+      pub dies : DiesAtMost (world old).cells (world new).cells (home_after before)
 
     -- How the reading of all homes ends: all have whole bytes, or that of the block after n has none, or it was
     -- stopped.

@@ -25,7 +25,7 @@ WriteSteps old new lba n bytes out = (s : Standing) → StandsFor old s → Writ
 
 -- The medium and the buffered blocks before a part of a request, and the logical block of the part with its home.
 module _ {M : Type 0} (world : M → World) (reaches : M → M → Span → Type 0)
-    (old : M) (held : List (ℕ × List ℕ)) (lba n i place : ℕ) where
+    (old : M) (held : List (ℕ × List ℕ)) (lba n i home : ℕ) where
   -- the medium, the block in work and the buffered blocks after the look for the rest of the block
   module _ (new : M) (rest : List ℕ) (held' : List (ℕ × List ℕ)) where
     -- the request covers all of the block, and nothing was done
@@ -37,12 +37,12 @@ module _ {M : Type 0} (world : M → World) (reaches : M → M → Span → Type
     -- it covers the block in part, and the block was fetched
     pub record HasFetched : Type 0 where
       pub partly : IsTrue (is_partly lba n i)
-      pub fetched : IsFetched world reaches old new held i place rest held'
+      pub fetched : IsFetched world reaches old new held i home rest held'
 
     -- it covers the block in part, and the block cannot be read
     pub record LacksItsRest : Type 0 where
       pub partly : IsTrue (is_partly lba n i)
-      pub unread : CannotBeRead world reaches old new held i place held'
+      pub unread : CannotBeRead world reaches old new held i home held'
 
     -- the block can be merged with its part of the request
     abbrev pub HasRest : Type 0
@@ -55,7 +55,7 @@ module _ {M : Type 0} (world : M → World) (reaches : M → M → Span → Type
   -- the look for the rest was stopped
   pub record RestStopped (new : M) (stop : Stop) : Type 0 where
     pub partly : IsTrue (is_partly lba n i)
-    pub stopped : FetchStopped world reaches old new held i place stop
+    pub stopped : FetchStopped world reaches old new held i home stop
 
 -- The media before and after the write of a part, the lists in use, the buffered blocks, and the bytes of the request.
 module _ {M : Type 0} (world : M → World) (reaches : M → M → Span → Type 0)
@@ -89,19 +89,19 @@ module _ {M : Type 0} (world : M → World) (reaches : M → M → Span → Type
     pub buffer_is : held' ≡ held_mid
 
   -- its rest cannot be read: it is named by its first sector of the request, and by its home
-  pub record MeetsUnread (named place : ℕ) : Type 0 where
+  pub record MeetsUnread (named home : ℕ) : Type 0 where
     pub rest : List ℕ
     pub lacks : LacksItsRest world reaches old held lba n i (home_of shape lists i) new rest held'
     pub same : lists' ≡ lists
     pub named_is : named ≡ start_in lba i
-    pub place_is : place ≡ home_of shape lists i
+    pub home_is : home ≡ home_of shape lists i
 
   -- what the write of a part does, by its answer: that of a write which was not stopped
   abbrev pub WritesPart : WriteOut → Type 0
   WritesPart outs.Good = AfterRest PutsPart
   WritesPart outs.NotFormatted = ⊥
   WritesPart (outs.Range capacity) = ⊥
-  WritesPart (outs.Unread named place) = MeetsUnread named place
+  WritesPart (outs.Unread named home) = MeetsUnread named home
   WritesPart (outs.NoSpare named) = AfterRest (PartMeetsNoSpare named)
   WritesPart (outs.NoUpdate counter) = AfterRest (PartMeetsNoCopy counter)
   WritesPart outs.Cut = ⊥

@@ -15,17 +15,17 @@ pub fn read_home<M: Medium>(
     buffer: &mut BlockBuffer,
     block: &mut Block,
     i: u32,
-    place: u32,
+    home: u32,
 ) -> Result<bool, Stop>
-    requires inside { place < M.block_count medium.old }
+    requires inside { home < M.block_count medium.old }
     requires few { length buffer.old ≤ BUFFERED_BLOCKS }
     requires not_buffered { bytes_at i buffer.old ≡ None }
     ensures rule { MatchResult result
-        (λ found. Fetches M.world M.reaches medium.old medium.new buffer.old i place block.new buffer.new found)
-        (λ stop. FetchStopped M.world M.reaches medium.old medium.new buffer.old i place stop) }
+        (λ found. Fetches M.world M.reaches medium.old medium.new buffer.old i home block.new buffer.new found)
+        (λ stop. FetchStopped M.world M.reaches medium.old medium.new buffer.old i home stop) }
     ensures as_many { M.block_count medium.new ≡ M.block_count medium.old }
 {
-    if !read_whole(medium, place, block)? {
+    if !read_whole(medium, home, block)? {
         return Ok(false);
     }
     buffer.put(i, block);

@@ -30,21 +30,21 @@ const LONG_REQUEST: u32 = 16;
 fn read_past<M: Medium>(
     medium: &mut M,
     part: Part,
-    place: u32,
+    home: u32,
     into: &mut [u8],
 ) -> Result<bool, Stop>
-    requires inside { place < M.block_count medium.old }
+    requires inside { home < M.block_count medium.old }
     requires all { is_partly part.request.lba part.request.n part.block ≡ false }
     requires whole { length into.old ≡ 2048 * part.request.n }
     ensures rule { (held : List (ℕ × List ℕ)) → length held ≤ BUFFERED_BLOCKS → bytes_at part.block held ≡ None
         → MatchResult result
         (λ found. ReadsPart M.world M.reaches medium.old medium.new held
-        part.request.lba part.request.n part.block place true held into.old into.new found)
-        (λ stop. FetchStopped M.world M.reaches medium.old medium.new held part.block place stop) }
+        part.request.lba part.request.n part.block home true held into.old into.new found)
+        (λ stop. FetchStopped M.world M.reaches medium.old medium.new held part.block home stop) }
     ensures as_many { M.block_count medium.new ≡ M.block_count medium.old }
 {
     let at = part.skipped();
-    let read = read_whole_into(medium, place, &mut into[at..at + BLOCK_BYTES]);
+    let read = read_whole_into(medium, home, &mut into[at..at + BLOCK_BYTES]);
     read
 }
 
@@ -75,15 +75,15 @@ fn read_part<M: Medium>(
         part.block (home_of geometry.now (lists_of lists.now) part.block) stop) }
     ensures as_many { M.block_count medium.new ≡ M.block_count medium.old }
 {
-    let place = home(geometry, layout, lists, part.block);
+    let home = home(geometry, layout, lists, part.block);
     if past {
-        return read_past(medium, part, place, into);
+        return read_past(medium, part, home, into);
     }
     if buffer.lookup(part.block, block) {
         part.copy_out(block, into);
         return Ok(true);
     }
-    if !read_whole(medium, place, block)? {
+    if !read_whole(medium, home, block)? {
         return Ok(false);
     }
     part.copy_out(block, into);

@@ -57,8 +57,8 @@ pub fn read_homes<M: Medium>(
 {
     for k in 0..request.blocks() {
         let part = request.part(k);
-        let place = home(geometry, layout, lists, part.block);
-        if !read_whole(medium, place, block)? {
+        let home = home(geometry, layout, lists, part.block);
+        if !read_whole(medium, home, block)? {
             return Ok(Some(k));
         }
     }

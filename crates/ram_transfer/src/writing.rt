@@ -30,14 +30,14 @@ fn fetch_rest<M: Medium>(
     buffer: &mut BlockBuffer,
     block: &mut Block,
     part: Part,
-    place: u32,
+    home: u32,
 ) -> Result<bool, Stop>
-    requires inside { place < M.block_count medium.old }
+    requires inside { home < M.block_count medium.old }
     ensures rule { MatchResult result
         (BringsRest M.world M.reaches medium.old buffer.old part.request.lba part.request.n part.block
-        place medium.new block.new buffer.new)
+        home medium.new block.new buffer.new)
         (RestStopped M.world M.reaches medium.old buffer.old part.request.lba part.request.n part.block
-        place medium.new) }
+        home medium.new) }
     ensures as_many { M.block_count medium.new ≡ M.block_count medium.old }
 {
     if !part.is_partly() {
@@ -46,7 +46,7 @@ fn fetch_rest<M: Medium>(
     if buffer.lookup(part.block, block) {
         return Ok(true);
     }
-    read_home(medium, buffer, block, part.block, place)
+    read_home(medium, buffer, block, part.block, home)
 }
 
 /// Writes a part of a request, and buffers its block once its home has it. The answer is that of a write of this part alone.
@@ -75,7 +75,7 @@ fn write_part<M: Medium>(
         lists.new }
     ensures same_layout { workspace.new.layout ≡ workspace.old.layout }
 {
-    let place = home(geometry, &workspace.layout, lists, part.block);
+    let home = home(geometry, &workspace.layout, lists, part.block);
     let Workspace {
         draft,
         buffer,
@@ -87,16 +87,16 @@ fn write_part<M: Medium>(
         kept: _,
         format: _,
     } = workspace;
-    if !fetch_rest(medium, buffer, block, part, place)? {
+    if !fetch_rest(medium, buffer, block, part, home)? {
         return Ok(WriteOut::Unread {
             lba: part.start,
-            block: place,
+            block: home,
         });
     }
     let bytes = part.merged(from, block);
     let sdl = &mut draft.sdl;
     let placed = place_block(
-        medium, geometry, layout, cursors, lists, sdl, part.block, place, bytes, back, scratch,
+        medium, geometry, layout, cursors, lists, sdl, part.block, home, bytes, back, scratch,
     )?;
     match placed {
         Outcome::Done => {

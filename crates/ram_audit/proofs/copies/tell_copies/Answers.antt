@@ -3,7 +3,8 @@ use Rattle.std.proofs.Common.{subst, arith}
 use Rattle.model_audit.specs.Certificate.{ListPart, area_cells}
 use Rattle.ram_image.specs.Medium.{bytes_in}
 use Rattle.ram_lists.specs.Lists.{lists_of}
-use Rattle.ram_audit.specs.Telling.{AddsCopies, cells_upto}
+use Rattle.ram_audit.specs.Telling.{AddsCopies}
+use Rattle.ram_audit.proofs.CellsUpTo.{cells_upto}
 use Rattle.ram_audit.proofs.Leaving.{looks_then}
 use Rattle.ram_audit.proofs.Adding.{copies_later, one_area, all_areas}
 use Rattle.ram_audit.proofs.copies.tell_copies.Goals as goal

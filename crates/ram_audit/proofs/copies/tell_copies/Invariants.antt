@@ -2,7 +2,8 @@ use Rattle.std.proofs.Common.{◌+◌, ◌*◌, ◌≤◌}
 use Rattle.ram_image.specs.Medium.{bytes_in}
 use Rattle.ram_lists.specs.Lists.{lists_of}
 use Rattle.ram_audit.specs.Leaving.{LooksOn}
-use Rattle.ram_audit.specs.Telling.{AddsCopies, cells_upto, bytes_of}
+use Rattle.ram_audit.specs.Telling.{AddsCopies, bytes_of}
+use Rattle.ram_audit.proofs.CellsUpTo.{cells_upto}
 use Rattle.ram_audit.proofs.copies.tell_copies.Given as goal
 
 abbrev pub invariant-loop-k : goal.invariant-loop-k

@@ -8,9 +8,9 @@ returns-in-Done g c =
     let many : length c.read_at.new.into ≡ min 64 (c.args.total - c.args.block) = search (rules, c.read_at.auto.into, c.min-count.ensures) in (
       c.in-Done.ensures.0,
       omega (arith, many, c.leading_good.ensures.inside, c.requires.inside),
-      row_good c.state_place.result c.args.block c.leading_good.result c.read_at.new.into c.state_place.ensures c.leading_good.ensures (g.I.Image.bytes c.args.image.now) c.in-Done.ensures.1,
-      row_not_good c.args.total c.state_place.result c.args.block c.leading_good.result c.read_at.new.into c.state_place.ensures (omega (arith, many, c.requires.inside)) c.leading_good.ensures
+      row_good c.state_offset.result c.args.block c.leading_good.result c.read_at.new.into c.state_offset.ensures c.leading_good.ensures (g.I.Image.bytes c.args.image.now) c.in-Done.ensures.1,
+      row_not_good c.args.total c.state_offset.result c.args.block c.leading_good.result c.read_at.new.into c.state_offset.ensures (omega (arith, many, c.requires.inside)) c.leading_good.ensures
           (g.I.Image.bytes c.args.image.now) c.in-Done.ensures.1,
-      row_leads c.state_place.result c.args.block (min 64 (c.args.total - c.args.block)) c.leading_good.result c.read_at.new.into c.state_place.ensures many c.leading_good.ensures
+      row_leads c.state_offset.result c.args.block (min 64 (c.args.total - c.args.block)) c.leading_good.result c.read_at.new.into c.state_offset.ensures many c.leading_good.ensures
           (g.I.Image.bytes c.args.image.now) c.in-Done.ensures.1,
     )

@@ -4,5 +4,5 @@ use Rattle.ram_image.proofs.cells.read_data.Goals as goal
 
 pub returns : goal.returns
 returns g c =
-    data_read c.args.total c.args.block c.data_place.result c.read_at.new.into c.data_place.ensures (c.read_at.auto.into ∙ c.requires.fits)
+    data_read c.args.total c.args.block c.data_offset.result c.read_at.new.into c.data_offset.ensures (c.read_at.auto.into ∙ c.requires.fits)
     (g.I.Image.bytes c.args.image.now) (g.I.Image.bytes c.read_at.new.self) (g.I.Image.faults c.args.image.now) (g.I.Image.faults c.read_at.new.self) c.requires.good c.read_at.result c.read_at.ensures

@@ -7,9 +7,9 @@ use Rattle.ram_image.proofs.cells.tear_cell.Goals as goal
 pub returns-clause-rule : goal.returns-clause-rule
 returns-clause-rule g c =
     state_written c.args.total c.args.block c.requires.inside _ Torn (λ bytes. refl) (g.I.Image.bytes c.args.image.now) (g.I.Image.bytes c.write_at.new.self) c.requires.whole
-    (g.I.Image.faults c.args.image.now) (g.I.Image.faults c.write_at.new.self) c.write_at.result (rw c.state_place.ensures at c.write_at.ensures)
+    (g.I.Image.faults c.args.image.now) (g.I.Image.faults c.write_at.new.self) c.write_at.result (rw c.state_offset.ensures at c.write_at.ensures)
 
 pub returns-clause-bytes : goal.returns-clause-bytes
 returns-clause-bytes g c =
     state_bytes c.args.total c.args.block c.requires.inside _ (g.I.Image.bytes c.args.image.now) (g.I.Image.bytes c.write_at.new.self) c.requires.whole
-    (g.I.Image.faults c.args.image.now) (g.I.Image.faults c.write_at.new.self) c.write_at.result (rw c.state_place.ensures at c.write_at.ensures)
+    (g.I.Image.faults c.args.image.now) (g.I.Image.faults c.write_at.new.self) c.write_at.result (rw c.state_offset.ensures at c.write_at.ensures)

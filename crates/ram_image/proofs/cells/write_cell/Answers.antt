@@ -8,7 +8,7 @@ pub returns-in-Failed-clause-rule : goal.returns-in-Failed-clause-rule
 returns-in-Failed-clause-rule g c = (
   known-stopped_first c.args.total c.args.block c.requires.inside (g.I.Image.bytes c.args.image.now) c.args.from.now c.requires.whole
       c.requires.fits (g.I.Image.bytes c.write_at.new.self)
-      (rw c.state_place.ensures at c.in-Failed.ensures.1),
+      (rw c.state_offset.ensures at c.in-Failed.ensures.1),
   c.in-Failed.ensures.0,
 )
 
@@ -16,7 +16,7 @@ pub returns-in-Failed-write_at-clause-rule : goal.returns-in-Failed-write_at-cla
 returns-in-Failed-write_at-clause-rule g c = (
   known-stopped_second c.args.total c.args.block c.requires.inside (g.I.Image.bytes c.args.image.now) c.args.from.now c.requires.whole
       c.requires.fits (g.I.Image.bytes c.write_at.new.self) (g.I.Image.bytes c.write_at-2.new.self)
-      (rw c.state_place.ensures at c.in-Done.ensures.changed) (rw c.data_place.ensures at c.in-Failed-write_at.ensures.1),
+      (rw c.state_offset.ensures at c.in-Done.ensures.changed) (rw c.data_offset.ensures at c.in-Failed-write_at.ensures.1),
   omega (arith, c.in-Done.ensures.count, c.in-Failed-write_at.ensures.0),
 )
 
@@ -24,34 +24,34 @@ pub write_at-requires-3 : goal.write_at-requires-3
 write_at-requires-3 g c x is =
     omega (
       arith,
-      c.state_place-2.ensures,
+      c.state_offset-2.ensures,
       known-second_long c.args.total c.args.block c.requires.inside (g.I.Image.bytes c.args.image.now) c.args.from.now c.requires.whole
           c.requires.fits (g.I.Image.bytes c.write_at.new.self) (g.I.Image.bytes c.write_at-2.new.self)
-          (rw c.state_place.ensures at c.in-Done.ensures.changed) (rw c.data_place.ensures at c.in-Done-write_at.ensures.changed) x is,
+          (rw c.state_offset.ensures at c.in-Done.ensures.changed) (rw c.data_offset.ensures at c.in-Done-write_at.ensures.changed) x is,
     )
 
 pub returns-clause-rule : goal.returns-clause-rule
 returns-clause-rule g c =
     last_write c.args.total c.args.block c.requires.inside (g.I.Image.bytes c.args.image.now) (g.I.Image.bytes c.write_at.new.self) (g.I.Image.bytes c.write_at-2.new.self)
     (g.I.Image.bytes c.write_at-3.new.self) c.args.from.now c.requires.whole c.requires.fits
-    (rw c.state_place.ensures at c.in-Done.ensures.changed) (rw c.data_place.ensures at c.in-Done-write_at.ensures.changed)
+    (rw c.state_offset.ensures at c.in-Done.ensures.changed) (rw c.data_offset.ensures at c.in-Done-write_at.ensures.changed)
     (g.I.Image.faults c.args.image.now) (g.I.Image.faults c.write_at-2.new.self) (g.I.Image.faults c.write_at-3.new.self)
-    (c.in-Done-write_at.ensures.count ∙ c.in-Done.ensures.count) c.write_at-3.result (rw c.state_place-2.ensures at c.write_at-3.ensures)
+    (c.in-Done-write_at.ensures.count ∙ c.in-Done.ensures.count) c.write_at-3.result (rw c.state_offset-2.ensures at c.write_at-3.ensures)
 
 pub returns-in-Failed-clause-bytes : goal.returns-in-Failed-clause-bytes
 returns-in-Failed-clause-bytes g c =
     bytes_first c.args.total c.args.block c.requires.inside c.args.from.now c.requires.fits (g.I.Image.bytes c.args.image.now) c.requires.whole
-    (g.I.Image.bytes c.write_at.new.self) (rw c.state_place.ensures at c.in-Failed.ensures.1)
+    (g.I.Image.bytes c.write_at.new.self) (rw c.state_offset.ensures at c.in-Failed.ensures.1)
 
 pub returns-in-Failed-write_at-clause-bytes : goal.returns-in-Failed-write_at-clause-bytes
 returns-in-Failed-write_at-clause-bytes g c =
     bytes_second c.args.total c.args.block c.requires.inside c.args.from.now c.requires.fits (g.I.Image.bytes c.args.image.now) c.requires.whole
-    (g.I.Image.bytes c.write_at.new.self) (g.I.Image.bytes c.write_at-2.new.self) (rw c.state_place.ensures at c.in-Done.ensures.changed)
-    (rw c.data_place.ensures at c.in-Failed-write_at.ensures.1)
+    (g.I.Image.bytes c.write_at.new.self) (g.I.Image.bytes c.write_at-2.new.self) (rw c.state_offset.ensures at c.in-Done.ensures.changed)
+    (rw c.data_offset.ensures at c.in-Failed-write_at.ensures.1)
 
 pub returns-clause-bytes : goal.returns-clause-bytes
 returns-clause-bytes g c =
     bytes_last c.args.total c.args.block c.requires.inside c.args.from.now c.requires.fits (g.I.Image.bytes c.args.image.now) c.requires.whole
     (g.I.Image.bytes c.write_at.new.self) (g.I.Image.bytes c.write_at-2.new.self) (g.I.Image.bytes c.write_at-3.new.self)
-    (rw c.state_place.ensures at c.in-Done.ensures.changed) (rw c.data_place.ensures at c.in-Done-write_at.ensures.changed)
-    (g.I.Image.faults c.args.image.now) (g.I.Image.faults c.write_at-2.new.self) (g.I.Image.faults c.write_at-3.new.self) c.write_at-3.result (rw c.state_place-2.ensures at c.write_at-3.ensures)
+    (rw c.state_offset.ensures at c.in-Done.ensures.changed) (rw c.data_offset.ensures at c.in-Done-write_at.ensures.changed)
+    (g.I.Image.faults c.args.image.now) (g.I.Image.faults c.write_at-2.new.self) (g.I.Image.faults c.write_at-3.new.self) c.write_at-3.result (rw c.state_offset-2.ensures at c.write_at-3.ensures)

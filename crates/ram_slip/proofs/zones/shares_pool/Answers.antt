@@ -1,5 +1,5 @@
 use Rattle.std.proofs.Common.{◌↔◌, Bool, IsTrue, sym, subst}
-use Rattle.ram_slip.specs.Place.{SharesPool}
+use Rattle.ram_slip.specs.Roles.{SharesPool}
 use Rattle.ram_slip.proofs.SpareAreas.{zones_tell, share_where_told}
 use Rattle.ram_slip.proofs.zones.shares_pool.Goals as goal
 

@@ -10,26 +10,26 @@ use Rattle.ram_transfer.proofs.reading.read_part.Goals as goal
 
 pub read_whole-requires : goal.read_whole-requires
 read_whole-requires g c =
-    home_below c.args.geometry.now (lists_of c.args.lists.now) c.args.part.block c.home-place.result (g.M.Medium.block_count c.args.medium.now) c.requires.valid c.requires.inside c.home-place.ensures c.requires.size
+    home_below c.args.geometry.now (lists_of c.args.lists.now) c.args.part.block c.home-home.result (g.M.Medium.block_count c.args.medium.now) c.requires.valid c.requires.inside c.home-home.ensures c.requires.size
 
 pub read_past-requires-clause-inside : goal.read_past-requires-clause-inside
 read_past-requires-clause-inside g c =
-    home_below c.args.geometry.now (lists_of c.args.lists.now) c.args.part.block c.home-place.result (g.M.Medium.block_count c.args.medium.now) c.requires.valid c.requires.inside c.home-place.ensures c.requires.size
+    home_below c.args.geometry.now (lists_of c.args.lists.now) c.args.part.block c.home-home.result (g.M.Medium.block_count c.args.medium.now) c.requires.valid c.requires.inside c.home-home.ensures c.requires.size
 
 pub returns-in_err-read_whole-clause-rule : goal.returns-in_err-read_whole-clause-rule
 returns-in_err-read_whole-clause-rule g c =
     let p = err_from_is_err_and c.from_residual.result c.from_residual.ensures.1 in
     rw (p.1, p.2)
-    (subst (λ (place : ℕ). FetchStopped {M = g.row.M.Denot} g.M.Medium.world g.M.Medium.reaches c.args.medium.now c.read_whole.new.medium c.args.buffer.now c.args.part.block place c.in_err-read_whole.field-0.0) c.home-place.ensures
-    (halted g.M.Medium.world g.M.Medium.reaches c.args.medium.now c.read_whole.new.medium c.args.buffer.now c.args.part.block c.home-place.result c.if-lookup.ensures.few c.if-lookup.ensures.found.0
+    (subst (λ (home : ℕ). FetchStopped {M = g.row.M.Denot} g.M.Medium.world g.M.Medium.reaches c.args.medium.now c.read_whole.new.medium c.args.buffer.now c.args.part.block home c.in_err-read_whole.field-0.0) c.home-home.ensures
+    (halted g.M.Medium.world g.M.Medium.reaches c.args.medium.now c.read_whole.new.medium c.args.buffer.now c.args.part.block c.home-home.result c.if-lookup.ensures.few c.if-lookup.ensures.found.0
     _ _ c.in_err-read_whole.field-0.0 c.in_err-read_whole.ensures.rule c.in_err-read_whole.ensures.continues))
 
 pub returns-then-not-branch-clause-rule : goal.returns-then-not-branch-clause-rule
 returns-then-not-branch-clause-rule g c = record {
   unread = subst (λ (held' : List (ℕ × List ℕ)). CannotBeRead {M = g.row.M.Denot} g.M.Medium.world g.M.Medium.reaches c.args.medium.now c.read_whole.new.medium c.args.buffer.now c.args.part.block
       (home_of c.args.geometry.now (lists_of c.args.lists.now) c.args.part.block) held') (sym c.if-lookup.ensures.found.1)
-      (subst (λ (place : ℕ). CannotBeRead {M = g.row.M.Denot} g.M.Medium.world g.M.Medium.reaches c.args.medium.now c.read_whole.new.medium c.args.buffer.now c.args.part.block place c.args.buffer.now) c.home-place.ensures
-      (unread g.M.Medium.world g.M.Medium.reaches c.args.medium.now c.read_whole.new.medium c.args.buffer.now c.args.part.block c.home-place.result c.if-lookup.ensures.few c.if-lookup.ensures.found.0
+      (subst (λ (home : ℕ). CannotBeRead {M = g.row.M.Denot} g.M.Medium.world g.M.Medium.reaches c.args.medium.now c.read_whole.new.medium c.args.buffer.now c.args.part.block home c.args.buffer.now) c.home-home.ensures
+      (unread g.M.Medium.world g.M.Medium.reaches c.args.medium.now c.read_whole.new.medium c.args.buffer.now c.args.part.block c.home-home.result c.if-lookup.ensures.few c.if-lookup.ensures.found.0
       _ c.read_whole.new.into c.in_ok-read_whole.field-0 c.if-not-branch.true c.in_ok-read_whole.ensures.rule c.in_ok-read_whole.ensures.continues));
   before = refl;
 }
@@ -44,8 +44,8 @@ returns-clause-rule g c = record {
   due = c.put.new.self;
   copied = record {
     bytes = c.read_whole.new.into;
-    fetched = subst (λ (place : ℕ). IsFetched {M = g.row.M.Denot} g.M.Medium.world g.M.Medium.reaches c.args.medium.now c.read_whole.new.medium c.args.buffer.now c.args.part.block place c.read_whole.new.into c.put.new.self) c.home-place.ensures
-        (read_in g.M.Medium.world g.M.Medium.reaches c.args.medium.now c.read_whole.new.medium c.args.buffer.now c.args.part.block c.home-place.result c.if-lookup.ensures.few c.if-lookup.ensures.found.0
+    fetched = subst (λ (home : ℕ). IsFetched {M = g.row.M.Denot} g.M.Medium.world g.M.Medium.reaches c.args.medium.now c.read_whole.new.medium c.args.buffer.now c.args.part.block home c.read_whole.new.into c.put.new.self) c.home-home.ensures
+        (read_in g.M.Medium.world g.M.Medium.reaches c.args.medium.now c.read_whole.new.medium c.args.buffer.now c.args.part.block c.home-home.result c.if-lookup.ensures.few c.if-lookup.ensures.found.0
         _ c.read_whole.new.into c.in_ok-read_whole.field-0 c.if-not-branch.false c.in_ok-read_whole.ensures.rule c.in_ok-read_whole.ensures.continues
         c.put.new.self (c.put.ensures ∙ ap (with_newest c.args.part.block c.read_whole.new.into) c.if-lookup.ensures.found.1));
     copied = c.copy_out-2.ensures;

@@ -18,7 +18,7 @@ returns-clause-rule g c =
     let end = wholly_end part.request.lba part.request.n part.block (false_is_not c.requires.all) in
     let inside : at + 32768 ≤ length c.args.into.now = omega (arith, at_is, c.requires.whole) in
     let long : length bytes ≡ 32768 = c.read_whole_into-read.auto.into ∙ mid_len at (at + 32768) c.args.into.now inside ∙ omega arith in
-    read_past_it g.M.Medium.world g.M.Medium.reaches c.args.medium.now c.read_whole_into-read.new.medium part.request.lba part.request.n part.block c.args.place bytes c.args.into.now _
+    read_past_it g.M.Medium.world g.M.Medium.reaches c.args.medium.now c.read_whole_into-read.new.medium part.request.lba part.request.n part.block c.args.home bytes c.args.into.now _
     (subst (λ (m : ℕ). take m (put_mid at (at + 32768 - at) c.args.into.now bytes) ≡ take m c.args.into.now) at_is
     (take_put at (at + 32768 - at) c.args.into.now bytes (omega (arith, inside))))
     (filled_whole part.request.lba part.request.n part.block at bytes c.args.into.now (false_is_not c.requires.all) at_is long)

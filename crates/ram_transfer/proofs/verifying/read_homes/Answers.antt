@@ -23,39 +23,39 @@ read_whole-requires g c =
     let covered : c.loop-k.k < blocks_covered c.args.request.lba c.args.request.n = omega (arith, c.loop-k-test.true, c.blocks-k-end.ensures) in
     let inside : c.args.request.lba + c.args.request.n ≤ 16 * logical_count c.args.geometry.now (lists_of c.args.lists.now) = omega (arith, c.requires.inside) in
     let within = covered_inside c.args.request.lba c.args.request.n c.loop-k.k (logical_count c.args.geometry.now (lists_of c.args.lists.now)) inside covered in
-    home_below c.args.geometry.now (lists_of c.args.lists.now) c.part-part.result.block c.home-place.result (g.M.Medium.block_count c.loop-k.medium) c.requires.valid
+    home_below c.args.geometry.now (lists_of c.args.lists.now) c.part-part.result.block c.home-home.result (g.M.Medium.block_count c.loop-k.medium) c.requires.valid
     (subst (λ (block : ℕ). block < logical_count c.args.geometry.now (lists_of c.args.lists.now)) (sym c.part-part.ensures.block) within)
-    c.home-place.ensures (c.loop-k.invariant.as_many ∙ c.requires.size)
+    c.home-home.ensures (c.loop-k.invariant.as_many ∙ c.requires.size)
 
 pub returns-in_err-read_whole-clause-rule : goal.returns-in_err-read_whole-clause-rule
 returns-in_err-read_whole-clause-rule g c =
     let p = err_from_is_err_and c.from_residual.result c.from_residual.ensures.1 in
     let covered : c.loop-k.k < blocks_covered c.args.request.lba c.args.request.n = omega (arith, c.loop-k-test.true, c.blocks-k-end.ensures) in
-    let here = in_block (λ lba n block. c.home-place.result ≡ home_of c.args.geometry.now (lists_of c.args.lists.now) block)
-    c.part-part.result c.args.request c.loop-k.k c.part-part.ensures.request c.part-part.ensures.block c.home-place.ensures in
+    let here = in_block (λ lba n block. c.home-home.result ≡ home_of c.args.geometry.now (lists_of c.args.lists.now) block)
+    c.part-part.result c.args.request c.loop-k.k c.part-part.ensures.request c.part-part.ensures.block c.home-home.ensures in
     rw (p.1, p.2)
     (verify_stops g.M.Medium.world g.M.Medium.block_count g.M.Medium.reaches g.met.M.Medium.laws c.args.geometry.now (lists_of c.args.lists.now)
-    c.args.medium.now c.loop-k.medium c.read_whole.new.medium c.args.request.lba c.args.request.n c.loop-k.k c.loop-k.invariant.so_far covered c.home-place.result here
+    c.args.medium.now c.loop-k.medium c.read_whole.new.medium c.args.request.lba c.args.request.n c.loop-k.k c.loop-k.invariant.so_far covered c.home-home.result here
     _ _ c.in_err-read_whole.field-0.0 c.in_err-read_whole.ensures.rule c.in_err-read_whole.ensures.continues)
 
 pub returns-then-not-branch-clause-rule : goal.returns-then-not-branch-clause-rule
 returns-then-not-branch-clause-rule g c =
     let covered : c.loop-k.k < blocks_covered c.args.request.lba c.args.request.n = omega (arith, c.loop-k-test.true, c.blocks-k-end.ensures) in
     let inside : c.args.request.lba + c.args.request.n ≤ 16 * logical_count c.args.geometry.now (lists_of c.args.lists.now) = omega (arith, c.requires.inside) in
-    let here = in_block (λ lba n block. c.home-place.result ≡ home_of c.args.geometry.now (lists_of c.args.lists.now) block)
-    c.part-part.result c.args.request c.loop-k.k c.part-part.ensures.request c.part-part.ensures.block c.home-place.ensures in
+    let here = in_block (λ lba n block. c.home-home.result ≡ home_of c.args.geometry.now (lists_of c.args.lists.now) block)
+    c.part-part.result c.args.request c.loop-k.k c.part-part.ensures.request c.part-part.ensures.block c.home-home.ensures in
     verify_meets g.M.Medium.world g.M.Medium.block_count g.M.Medium.reaches g.met.M.Medium.laws c.args.geometry.now (lists_of c.args.lists.now)
-    c.args.medium.now c.loop-k.medium c.read_whole.new.medium c.args.request.lba c.args.request.n c.loop-k.k c.loop-k.invariant.so_far covered c.home-place.result here
+    c.args.medium.now c.loop-k.medium c.read_whole.new.medium c.args.request.lba c.args.request.n c.loop-k.k c.loop-k.invariant.so_far covered c.home-home.result here
     _ c.read_whole.new.into c.requires.valid inside (rw c.if-not-branch.true at c.in_ok-read_whole.ensures.rule) c.in_ok-read_whole.ensures.continues
 
 pub loop-k-preserved : goal.loop-k-preserved
 loop-k-preserved g c =
     let covered : c.loop-k.k < blocks_covered c.args.request.lba c.args.request.n = omega (arith, c.loop-k-test.true, c.blocks-k-end.ensures) in
-    let here = in_block (λ lba n block. c.home-place.result ≡ home_of c.args.geometry.now (lists_of c.args.lists.now) block)
-    c.part-part.result c.args.request c.loop-k.k c.part-part.ensures.request c.part-part.ensures.block c.home-place.ensures in
+    let here = in_block (λ lba n block. c.home-home.result ≡ home_of c.args.geometry.now (lists_of c.args.lists.now) block)
+    c.part-part.result c.args.request c.loop-k.k c.part-part.ensures.request c.part-part.ensures.block c.home-home.ensures in
     record {
       so_far = verified_more g.M.Medium.world g.M.Medium.block_count g.M.Medium.reaches g.met.M.Medium.laws c.args.geometry.now (lists_of c.args.lists.now)
-          c.args.medium.now c.loop-k.medium c.read_whole.new.medium c.args.request.lba c.args.request.n c.loop-k.k c.loop-k.invariant.so_far covered c.home-place.result here
+          c.args.medium.now c.loop-k.medium c.read_whole.new.medium c.args.request.lba c.args.request.n c.loop-k.k c.loop-k.invariant.so_far covered c.home-home.result here
           c.loop-k.block c.read_whole.new.into (rw c.if-not-branch.false at c.in_ok-read_whole.ensures.rule) c.in_ok-read_whole.ensures.continues;
       as_many = c.read_whole.ensures.as_many ∙ c.loop-k.invariant.as_many;
     }

@@ -9,6 +9,6 @@ returns-clause-merged c =
     let part = c.args.self in
     written_back c.args.block.now c.put_bytes.new.into (c.put_bytes.auto.into ∙ ap length c.bytes_mut-bytes.ensures.same)
     ∙ merged part.request.lba part.request.n part.block part.start part.end part.start_is part.end_is
-    c.place-place.result c.skipped-skipped.result c.len-len.result c.place-place.ensures c.skipped-skipped.ensures c.len-len.ensures
+    c.offset-offset.result c.skipped-skipped.result c.len-len.result c.offset-offset.ensures c.skipped-skipped.ensures c.len-len.ensures
     c.args.from.now c.bytes_mut-bytes.result.now c.put_bytes.new.into c.put_bytes.ensures
     ∙ ap (merged_in part.request.lba part.request.n c.args.from.now part.block) c.bytes_mut-bytes.ensures.same
