@@ -1,0 +1,4 @@
+pub mod Messages
+pub mod Operations
+pub mod Handshake
+pub mod Commands
