@@ -7,7 +7,7 @@ use Rattle.model_bytes.specs.Bytes.{put_at, PartlyPut}
 use Rattle.model_bytes.proofs.Laws.{length-put_at, get_or-put_at-below, get_or-put_at-past, get_or-put_at-inside}
 use Rattle.model_medium.specs.Cells.{Blank, Good, Torn, Dead}
 use Rattle.model_medium.specs.declared.Fate.{Fate}
-use Rattle.model_image.specs.Cells.{state_place, data_place, image_len, cell_of}
+use Rattle.model_image.specs.Cells.{state_offset, data_offset, image_len, cell_of}
 use Rattle.model_image.specs.Writes.{torn_state, good_state, dead_state, with_state, with_block, bytes_by, bytes_left, PutsInBlock, IsBeforeOrAfter}
 
 -- one written byte, and all others
@@ -44,8 +44,8 @@ module _ (at byte : ℕ) (before after : List ℕ) (inside : at < length before)
 module _ (total block : ℕ) (from : List ℕ) where
   -- a byte was put by a write of the block
   abbrev New : List ℕ → ℕ → Type 0
-  New l k = ((k ≡ state_place block) × ((slice_index l k ≡ torn_state) ⊎ (slice_index l k ≡ good_state)))
-      ⊎ ((data_place total block ≤ k) × (k < data_place total block + length from) × (slice_index l k ≡ slice_index from (k - data_place total block)))
+  New l k = ((k ≡ state_offset block) × ((slice_index l k ≡ torn_state) ⊎ (slice_index l k ≡ good_state)))
+      ⊎ ((data_offset total block ≤ k) × (k < data_offset total block + length from) × (slice_index l k ≡ slice_index from (k - data_offset total block)))
 
   -- nothing was put
   pub puts_none : (held : List ℕ) → PutsInBlock total block from held held
@@ -64,21 +64,21 @@ module _ (total block : ℕ) (from : List ℕ) where
       step k first (inr new) = inr new
 
   -- the state byte of a torn or a good block was put in part, and so were the data
-  pub puts_state : (state : ℕ) (a b : List ℕ) → (state ≡ torn_state) ⊎ (state ≡ good_state) → PartlyPut (state_place block) (state ∷ []) a b → PutsInBlock total block from a b
+  pub puts_state : (state : ℕ) (a b : List ℕ) → (state ≡ torn_state) ⊎ (state ≡ good_state) → PartlyPut (state_offset block) (state ∷ []) a b → PutsInBlock total block from a b
   puts_state state a b is put = record { as_long = put.as_long; each = λ k. step k (put.each k) }
     where
-      byte : (k : ℕ) → k ≡ state_place block → slice_index b k ≡ slice_index (state ∷ []) (k - state_place block) → slice_index b k ≡ state
-      byte k e new = new ∙ ap (slice_index (state ∷ [])) (let none : k - state_place block ≡ 0 = omega (arith, e) in none)
+      byte : (k : ℕ) → k ≡ state_offset block → slice_index b k ≡ slice_index (state ∷ []) (k - state_offset block) → slice_index b k ≡ state
+      byte k e new = new ∙ ap (slice_index (state ∷ [])) (let none : k - state_offset block ≡ 0 = omega (arith, e) in none)
 
-      step : (k : ℕ) → (slice_index b k ≡ slice_index a k) ⊎ ((state_place block ≤ k) × (k < state_place block + 1) × (slice_index b k ≡ slice_index (state ∷ []) (k - state_place block)))
-          → (slice_index b k ≡ slice_index a k) ⊎ ((k ≡ state_place block) × ((slice_index b k ≡ torn_state) ⊎ (slice_index b k ≡ good_state)))
-          ⊎ ((data_place total block ≤ k) × (k < data_place total block + length from) × (slice_index b k ≡ slice_index from (k - data_place total block)))
+      step : (k : ℕ) → (slice_index b k ≡ slice_index a k) ⊎ ((state_offset block ≤ k) × (k < state_offset block + 1) × (slice_index b k ≡ slice_index (state ∷ []) (k - state_offset block)))
+          → (slice_index b k ≡ slice_index a k) ⊎ ((k ≡ state_offset block) × ((slice_index b k ≡ torn_state) ⊎ (slice_index b k ≡ good_state)))
+          ⊎ ((data_offset total block ≤ k) × (k < data_offset total block + length from) × (slice_index b k ≡ slice_index from (k - data_offset total block)))
       step k (inl e) = inl e
       step k (inr p) =
-          let here : k ≡ state_place block = omega (arith, p.0, p.1) in
+          let here : k ≡ state_offset block = omega (arith, p.0, p.1) in
           inr (inl (here, elim is [ inl torn ↦ inl (byte k here p.2 ∙ torn) | inr good ↦ inr (byte k here p.2 ∙ good) ]))
 
-  pub puts_data : (a b : List ℕ) → PartlyPut (data_place total block) from a b → PutsInBlock total block from a b
+  pub puts_data : (a b : List ℕ) → PartlyPut (data_offset total block) from a b → PutsInBlock total block from a b
   puts_data a b put = record { as_long = put.as_long; each = λ k. elim (put.each k) [ inl e ↦ inl e | inr p ↦ inr (inr p) ] }
 
 -- what was put whole was put in part
@@ -105,60 +105,60 @@ module _ (total block : ℕ) (inside : block < total) (from held : List ℕ) (wh
   first = with_state block torn_state held
 
   abbrev second : List ℕ
-  second = put_at (data_place total block) from first
+  second = put_at (data_offset total block) from first
 
   first_long : length first ≡ length held
-  first_long = length-put_at (state_place block) (2 ∷ []) held (omega arith)
+  first_long = length-put_at (state_offset block) (2 ∷ []) held (omega arith)
 
   second_long : length second ≡ length held
-  second_long = length-put_at (data_place total block) from first (omega (arith, first_long)) ∙ first_long
+  second_long = length-put_at (data_offset total block) from first (omega (arith, first_long)) ∙ first_long
 
   abbrev aside : List ℕ
-  aside = put_at (data_place total block) from held
+  aside = put_at (data_offset total block) from held
 
   aside_long : length aside ≡ length held
-  aside_long = length-put_at (data_place total block) from held (omega arith)
+  aside_long = length-put_at (data_offset total block) from held (omega arith)
 
   -- but for the state byte, it does not matter whether the block was torn before
-  no_matter : (k : ℕ) → k ≢ state_place block → slice_index second k ≡ slice_index aside k
-  no_matter k other = elim (cases_lt k (data_place total block)) [
-    | inl below ↦ get_or-put_at-below k (data_place total block) from first 0 below (omega (arith, first_long)) ∙ byte_elsewhere (state_place block) 2 held k (omega arith) other
-        ∙ sym (get_or-put_at-below k (data_place total block) from held 0 below (omega arith))
-    | inr above ↦ elim (cases_lt k (data_place total block + length from)) [
+  no_matter : (k : ℕ) → k ≢ state_offset block → slice_index second k ≡ slice_index aside k
+  no_matter k other = elim (cases_lt k (data_offset total block)) [
+    | inl below ↦ get_or-put_at-below k (data_offset total block) from first 0 below (omega (arith, first_long)) ∙ byte_elsewhere (state_offset block) 2 held k (omega arith) other
+        ∙ sym (get_or-put_at-below k (data_offset total block) from held 0 below (omega arith))
+    | inr above ↦ elim (cases_lt k (data_offset total block + length from)) [
       | inl within ↦
-          let split : k ≡ data_place total block + (k - data_place total block) = omega arith in
-          ap (slice_index second) split ∙ get_or-put_at-inside (k - data_place total block) (data_place total block) from first 0 (omega arith) (omega (arith, first_long))
-          ∙ sym (get_or-put_at-inside (k - data_place total block) (data_place total block) from held 0 (omega arith) (omega arith)) ∙ ap (slice_index aside) (sym split)
-      | inr past ↦ get_or-put_at-past k (data_place total block) from first 0 past (omega (arith, first_long)) ∙ byte_elsewhere (state_place block) 2 held k (omega arith) other
-          ∙ sym (get_or-put_at-past k (data_place total block) from held 0 past (omega arith))
+          let split : k ≡ data_offset total block + (k - data_offset total block) = omega arith in
+          ap (slice_index second) split ∙ get_or-put_at-inside (k - data_offset total block) (data_offset total block) from first 0 (omega arith) (omega (arith, first_long))
+          ∙ sym (get_or-put_at-inside (k - data_offset total block) (data_offset total block) from held 0 (omega arith) (omega arith)) ∙ ap (slice_index aside) (sym split)
+      | inr past ↦ get_or-put_at-past k (data_offset total block) from first 0 past (omega (arith, first_long)) ∙ byte_elsewhere (state_offset block) 2 held k (omega arith) other
+          ∙ sym (get_or-put_at-past k (data_offset total block) from held 0 past (omega arith))
     ]
   ]
 
-  pub three_writes : put_at (state_place block) (1 ∷ []) second ≡ with_block total block from held
+  pub three_writes : put_at (state_offset block) (1 ∷ []) second ≡ with_block total block from held
   three_writes =
       ext_get_or 0 _ _
-      (length-put_at (state_place block) (1 ∷ []) second (omega (arith, second_long)) ∙ second_long ∙ sym (length-put_at (state_place block) (1 ∷ []) aside (omega (arith, aside_long)) ∙ aside_long))
-      (λ k h. elim (cases_eq k (state_place block)) [
-        | inl e ↦ ap (slice_index (put_at (state_place block) (1 ∷ []) second)) e ∙ byte_there (state_place block) 1 second (omega (arith, second_long))
-            ∙ sym (byte_there (state_place block) 1 aside (omega (arith, aside_long))) ∙ ap (slice_index (put_at (state_place block) (1 ∷ []) aside)) (sym e)
-        | inr ne ↦ byte_elsewhere (state_place block) 1 second k (omega (arith, second_long)) ne ∙ no_matter k ne
-            ∙ sym (byte_elsewhere (state_place block) 1 aside k (omega (arith, aside_long)) ne)
+      (length-put_at (state_offset block) (1 ∷ []) second (omega (arith, second_long)) ∙ second_long ∙ sym (length-put_at (state_offset block) (1 ∷ []) aside (omega (arith, aside_long)) ∙ aside_long))
+      (λ k h. elim (cases_eq k (state_offset block)) [
+        | inl e ↦ ap (slice_index (put_at (state_offset block) (1 ∷ []) second)) e ∙ byte_there (state_offset block) 1 second (omega (arith, second_long))
+            ∙ sym (byte_there (state_offset block) 1 aside (omega (arith, aside_long))) ∙ ap (slice_index (put_at (state_offset block) (1 ∷ []) aside)) (sym e)
+        | inr ne ↦ byte_elsewhere (state_offset block) 1 second k (omega (arith, second_long)) ne ∙ no_matter k ne
+            ∙ sym (byte_elsewhere (state_offset block) 1 aside k (omega (arith, aside_long)) ne)
       ])
 
   puts_first : PutsInBlock total block from held first
-  puts_first = puts_state total block from 2 held first (inl refl) (put_at-partly (state_place block) (2 ∷ []) held (omega arith))
+  puts_first = puts_state total block from 2 held first (inl refl) (put_at-partly (state_offset block) (2 ∷ []) held (omega arith))
 
   puts_second : PutsInBlock total block from first second
-  puts_second = puts_data total block from first second (put_at-partly (data_place total block) from first (omega (arith, first_long)))
+  puts_second = puts_data total block from first second (put_at-partly (data_offset total block) from first (omega (arith, first_long)))
 
   -- each of the three failed half way
-  pub puts_till_first : (after : List ℕ) → PartlyPut (state_place block) (2 ∷ []) held after → PutsInBlock total block from held after
+  pub puts_till_first : (after : List ℕ) → PartlyPut (state_offset block) (2 ∷ []) held after → PutsInBlock total block from held after
   puts_till_first after put = puts_state total block from 2 held after (inl refl) put
 
-  pub puts_till_second : (after : List ℕ) → PartlyPut (data_place total block) from first after → PutsInBlock total block from held after
+  pub puts_till_second : (after : List ℕ) → PartlyPut (data_offset total block) from first after → PutsInBlock total block from held after
   puts_till_second after put = puts_then total block from held first after puts_first (puts_data total block from first after put)
 
-  pub puts_till_third : (after : List ℕ) → PartlyPut (state_place block) (1 ∷ []) second after → PutsInBlock total block from held after
+  pub puts_till_third : (after : List ℕ) → PartlyPut (state_offset block) (1 ∷ []) second after → PutsInBlock total block from held after
   puts_till_third after put =
       puts_then total block from held second after (puts_then total block from held first second puts_first puts_second)
       (puts_state total block from 1 second after (inr refl) put)
@@ -184,16 +184,16 @@ dead_cell_of state held e = ap (λ s. cell_of s held) e
 
 -- what a fate leaves under a dead block, and under one that is not
 module _ (fate : Fate) (total block : ℕ) (from held : List ℕ) where
-  pub bytes_left-dead : slice_index held (state_place block) ≡ dead_state → held ≡ bytes_left fate total block from held
-  bytes_left-dead dead = by_test (slice_index held (state_place block) == 3) (eq-eqb (slice_index held (state_place block)) 3 dead)
+  pub bytes_left-dead : slice_index held (state_offset block) ≡ dead_state → held ≡ bytes_left fate total block from held
+  bytes_left-dead dead = by_test (slice_index held (state_offset block) == 3) (eq-eqb (slice_index held (state_offset block)) 3 dead)
     where
       by_test : (b : Bool) → b ≡ true → held ≡ (if b then held else bytes_by fate total block from held)
       by_test true e = refl
       by_test false e = absurd (cc)
 
-  pub bytes_left-alive : ¬ (slice_index held (state_place block) ≡ dead_state) → bytes_by fate total block from held ≡ bytes_left fate total block from held
-  bytes_left-alive alive = by_test (slice_index held (state_place block) == 3) refl
+  pub bytes_left-alive : ¬ (slice_index held (state_offset block) ≡ dead_state) → bytes_by fate total block from held ≡ bytes_left fate total block from held
+  bytes_left-alive alive = by_test (slice_index held (state_offset block) == 3) refl
     where
-      by_test : (b : Bool) → (slice_index held (state_place block) == 3) ≡ b → bytes_by fate total block from held ≡ (if b then held else bytes_by fate total block from held)
-      by_test true e = absurd (alive (eqb-true (slice_index held (state_place block)) 3 e))
+      by_test : (b : Bool) → (slice_index held (state_offset block) == 3) ≡ b → bytes_by fate total block from held ≡ (if b then held else bytes_by fate total block from held)
+      by_test true e = absurd (alive (eqb-true (slice_index held (state_offset block)) 3 e))
       by_test false e = refl

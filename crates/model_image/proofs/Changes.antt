@@ -4,7 +4,7 @@ use Rattle.std.proofs.lemmas.Bool.{cases_eq, cases_lt}
 use Rattle.std.proofs.lemmas.List.{ext_get_or, length-set}
 use Rattle.std.proofs.lemmas.List.FromFn.{fill_by_all, length-map-range_with_len, get_or-map-range_with_len}
 use Rattle.model_medium.specs.Cells.{Cell, Dead}
-use Rattle.model_image.specs.Cells.{state_place, data_place, cell_of, data_in, cell_in, cells_of}
+use Rattle.model_image.specs.Cells.{state_offset, data_offset, cell_of, data_in, cell_in, cells_of}
 
 -- As long as before, and the same outside of the n bytes at `at` and on.
 pub record SameBut (at n : ℕ) (before after : List ℕ) : Type 0 where
@@ -22,28 +22,28 @@ same_part p n before after long same =
     ∙ sym (get_or-drop p before i 0) ∙ sym (get_or-take n (drop p before) i 0 below))
 
 -- the cell of a block whose state byte and data are the same is the same
-pub same_cell : (total : ℕ) (before after : List ℕ) (k : ℕ) → length after ≡ length before → slice_index after (state_place k) ≡ slice_index before (state_place k)
-    → ((i : ℕ) → data_place total k ≤ i → i < data_place total k + 32768 → slice_index after i ≡ slice_index before i) → cell_in total after k ≡ cell_in total before k
+pub same_cell : (total : ℕ) (before after : List ℕ) (k : ℕ) → length after ≡ length before → slice_index after (state_offset k) ≡ slice_index before (state_offset k)
+    → ((i : ℕ) → data_offset total k ≤ i → i < data_offset total k + 32768 → slice_index after i ≡ slice_index before i) → cell_in total after k ≡ cell_in total before k
 same_cell total before after k long state same =
-    ap (λ s. cell_of s (data_in total after k)) state ∙ ap (cell_of (slice_index before (state_place k))) (same_part (data_place total k) 32768 before after long same)
+    ap (λ s. cell_of s (data_in total after k)) state ∙ ap (cell_of (slice_index before (state_offset k))) (same_part (data_offset total k) 32768 before after long same)
 
 -- after a change of one block's state byte, the other cells are the same
-pub other_cell-state : (total : ℕ) (before after : List ℕ) (block k : ℕ) → k < total → k ≢ block → SameBut (state_place block) 1 before after → block < total
+pub other_cell-state : (total : ℕ) (before after : List ℕ) (block k : ℕ) → k < total → k ≢ block → SameBut (state_offset block) 1 before after → block < total
     → cell_in total after k ≡ cell_in total before k
 other_cell-state total before after block k inside other change block_inside =
     same_cell total before after k change.as_long
-    (change.same (state_place k) (elim (cases_lt k block) [ inl h ↦ inl (omega arith) | inr h ↦ inr (omega arith) ]))
+    (change.same (state_offset k) (elim (cases_lt k block) [ inl h ↦ inl (omega arith) | inr h ↦ inr (omega arith) ]))
     (λ i low high. change.same i (inr (omega arith)))
 
 -- after a change in one block's data, the other cells are the same
-pub other_cell-data : (total : ℕ) (before after : List ℕ) (block k : ℕ) → k < total → k ≢ block → SameBut (data_place total block) 32768 before after → block < total
+pub other_cell-data : (total : ℕ) (before after : List ℕ) (block k : ℕ) → k < total → k ≢ block → SameBut (data_offset total block) 32768 before after → block < total
     → cell_in total after k ≡ cell_in total before k
 other_cell-data total before after block k inside other change block_inside =
     same_cell total before after k change.as_long
-    (change.same (state_place k) (inl (omega arith)))
+    (change.same (state_offset k) (inl (omega arith)))
     (λ i low high. change.same i (apart i low high))
   where
-    apart : (i : ℕ) → data_place total k ≤ i → i < data_place total k + 32768 → (i < data_place total block) ⊎ (data_place total block + 32768 ≤ i)
+    apart : (i : ℕ) → data_offset total k ≤ i → i < data_offset total k + 32768 → (i < data_offset total block) ⊎ (data_offset total block + 32768 ≤ i)
     apart i low high = elim (cases_lt k block) [ inl h ↦ inl (omega arith) | inr h ↦ inr (omega arith) ]
 
 -- an image in which one cell alone may differ has the cells of before with that one set

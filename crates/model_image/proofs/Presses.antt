@@ -9,7 +9,7 @@ use Rattle.model_bytes.specs.Bytes.{put_at, resized, PartlyPut}
 use Rattle.model_bytes.specs.Known.{WhereKnown}
 use Rattle.model_geometry.specs.Geometry.{Shape, IsLawful, total}
 use Rattle.model_medium.specs.Cells.{Blank, Dead}
-use Rattle.model_image.specs.Cells.{state_place, image_len, cell_of, data_in, cell_in, cells_of}
+use Rattle.model_image.specs.Cells.{state_offset, image_len, cell_of, data_in, cell_in, cells_of}
 use Rattle.model_image.specs.Image.{header_of, IsImageOf, pressed_image, PressesImage, blank_cells, IsBlankIfDisc, IsStoppedPress}
 use Rattle.model_image.proofs.Changes.{SameBut}
 use Rattle.model_image.proofs.Writes.{SameBut-put_at, SameBut-PartlyPut}
@@ -34,7 +34,7 @@ zeros_at n k = elim (cases_lt k n) [ inl h ↦ get_or-replicate n k 0 0 h | inr 
 -- then all cells are blank
 pub cells_of-zeros : (n : ℕ) (bytes : List ℕ) → IsZeroBehindHeader bytes → cells_of n bytes ≡ replicate n Blank
 cells_of-zeros n bytes zero = sym (fill_by_all (cell_in n bytes) (replicate n Blank) n Dead (length-replicate n Blank) (λ k h.
-    get_or-replicate n k Blank Dead h ∙ sym (ap (λ s. cell_of s (data_in n bytes k)) (zero (state_place k) (omega arith)))))
+    get_or-replicate n k Blank Dead h ∙ sym (ap (λ s. cell_of s (data_in n bytes k)) (zero (state_offset k) (omega arith)))))
 
 pub blank_if_disc : (bytes : List ℕ) → IsZeroBehindHeader bytes → IsBlankIfDisc bytes
 blank_if_disc bytes zero shape disc = cells_of-zeros (total shape) bytes zero

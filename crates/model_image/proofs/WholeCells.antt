@@ -6,7 +6,7 @@ use Rattle.std.proofs.lemmas.Bool.{leb-true, leb-false}
 use Rattle.std.proofs.lemmas.List.{length-take-le, get_or_past}
 use Rattle.std.proofs.lemmas.List.FromFn.{length-map-range_with_len}
 use Rattle.model_medium.specs.Cells.{Blank, Good, Torn, Dead, AreWhole, cell_at}
-use Rattle.model_image.specs.Cells.{data_in, data_place, cell_in, cells_of, cells_known, image_len}
+use Rattle.model_image.specs.Cells.{data_in, data_offset, cell_in, cells_of, cells_known, image_len}
 use Rattle.model_image.proofs.Writes.{cell_at-cells_of}
 
 -- the bytes of a good cell are the block's data
@@ -20,8 +20,8 @@ good_data false false false block_data bytes same = absurd (let clash : Torn ≡
 module _ (total : ℕ) (bytes : List ℕ) (long : length bytes ≡ image_len total) where
   data_long : (block : ℕ) → block < total → length (data_in total bytes block) ≡ 32768
   data_long block inside =
-      let behind : data_place total block + 32768 ≤ length bytes = omega (arith, long, inside) in
-      length-take-le 32768 (drop (data_place total block) bytes) (omega (arith, behind, length-drop (data_place total block) bytes))
+      let behind : data_offset total block + 32768 ≤ length bytes = omega (arith, long, inside) in
+      length-take-le 32768 (drop (data_offset total block) bytes) (omega (arith, behind, length-drop (data_offset total block) bytes))
 
   pub cells_of-whole : AreWhole (cells_of total bytes)
   cells_of-whole block held good = by_test (leb total block) refl

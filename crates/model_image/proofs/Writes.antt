@@ -5,7 +5,7 @@ use Rattle.std.proofs.lemmas.List.{length-take-le, take_at, drop_at, append_asso
 use Rattle.std.proofs.lemmas.List.FromFn.{get_or-map-range_with_len}
 use Rattle.model_bytes.specs.Bytes.{put_at, PartlyPut}
 use Rattle.model_medium.specs.Cells.{Dead, cell_at}
-use Rattle.model_image.specs.Cells.{state_place, data_place, cell_of, data_in, cell_in, cells_of}
+use Rattle.model_image.specs.Cells.{state_offset, data_offset, cell_of, data_in, cell_in, cells_of}
 use Rattle.model_image.proofs.Changes.{SameBut, same_part, other_cell-state, other_cell-data, cells_of-set}
 
 -- bytes put at a place leave the others
@@ -53,19 +53,19 @@ byte-put_at at byte held fits =
 
 module _ (total : ℕ) (before after : List ℕ) (block : ℕ) (inside : block < total) where
   -- after a change of its state byte
-  pub cells-state : SameBut (state_place block) 1 before after → cells_of total after ≡ set (cells_of total before) block (cell_of (slice_index after (state_place block)) (data_in total before block))
+  pub cells-state : SameBut (state_offset block) 1 before after → cells_of total after ≡ set (cells_of total before) block (cell_of (slice_index after (state_offset block)) (data_in total before block))
   cells-state change = cells_of-set total before after block _ inside here (λ k h ne. other_cell-state total before after block k h ne change inside)
     where
-      here : cell_in total after block ≡ cell_of (slice_index after (state_place block)) (data_in total before block)
-      here = ap (cell_of (slice_index after (state_place block)))
-          (same_part (data_place total block) 32768 before after change.as_long (λ i low high. change.same i (inr (omega arith))))
+      here : cell_in total after block ≡ cell_of (slice_index after (state_offset block)) (data_in total before block)
+      here = ap (cell_of (slice_index after (state_offset block)))
+          (same_part (data_offset total block) 32768 before after change.as_long (λ i low high. change.same i (inr (omega arith))))
 
   -- after a change in its data
-  pub cells-data : SameBut (data_place total block) 32768 before after → cells_of total after ≡ set (cells_of total before) block (cell_of (slice_index before (state_place block)) (data_in total after block))
+  pub cells-data : SameBut (data_offset total block) 32768 before after → cells_of total after ≡ set (cells_of total before) block (cell_of (slice_index before (state_offset block)) (data_in total after block))
   cells-data change = cells_of-set total before after block _ inside here (λ k h ne. other_cell-data total before after block k h ne change inside)
     where
-      here : cell_in total after block ≡ cell_of (slice_index before (state_place block)) (data_in total after block)
-      here = ap (λ s. cell_of s (data_in total after block)) (change.same (state_place block) (inl (omega arith)))
+      here : cell_in total after block ≡ cell_of (slice_index before (state_offset block)) (data_in total after block)
+      here = ap (λ s. cell_of s (data_in total after block)) (change.same (state_offset block) (inl (omega arith)))
 
 -- the cell of a block, among all of them
 pub cell_at-cells_of : (total : ℕ) (bytes : List ℕ) (block : ℕ) → block < total → cell_at (cells_of total bytes) block ≡ cell_in total bytes block

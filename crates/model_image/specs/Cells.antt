@@ -4,12 +4,12 @@ use Rattle.std.specs.List.{range_with_len}
 use Rattle.model_medium.specs.Cells.{Cell, Blank, Good, Torn, Dead, cell_at, MayLeave}
 
 -- where the state byte of a block stands, behind a header of 16 bytes (this project's own, as all of the image)
-abbrev pub state_place : ℕ → ℕ
-state_place block = 16 + block
+abbrev pub state_offset : ℕ → ℕ
+state_offset block = 16 + block
 
 -- where the data of a block begin, behind the state bytes of all blocks
-abbrev pub data_place : ℕ → ℕ → ℕ
-data_place total block = 16 + total + 32768 * block
+abbrev pub data_offset : ℕ → ℕ → ℕ
+data_offset total block = 16 + total + 32768 * block
 
 -- the cell that a state byte and a block's data give
 abbrev pub cell_of : ℕ → List ℕ → Cell
@@ -17,11 +17,11 @@ cell_of state block_data = if state == 0 then Blank else (if state == 1 then Goo
 
 -- the data of a block in an image of n blocks
 abbrev pub data_in : ℕ → List ℕ → ℕ → List ℕ
-data_in total bytes block = take 32768 (drop (data_place total block) bytes)
+data_in total bytes block = take 32768 (drop (data_offset total block) bytes)
 
 -- the cell of a block in an image of n blocks
 abbrev pub cell_in : ℕ → List ℕ → ℕ → Cell
-cell_in total bytes block = cell_of (slice_index bytes (state_place block)) (data_in total bytes block)
+cell_in total bytes block = cell_of (slice_index bytes (state_offset block)) (data_in total bytes block)
 
 -- the cells of an image of n blocks
 abbrev pub cells_of : ℕ → List ℕ → List Cell

@@ -1,3 +1,3 @@
-pub mod Certified
+pub mod CertifiedUpTo
 pub mod Passing
 pub mod Going

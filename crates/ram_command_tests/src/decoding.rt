@@ -30,7 +30,7 @@ pub fn answer_decode(alloc: Global, words: &[&str], answer: &mut String) -> Resu
     }
 }
 
-/// `CDB COUNT`: what it asks for with data of so many zeros.
+/// `CDB COUNT`: what it asks for with data of that many zeros.
 pub fn answer_zeros(alloc: Global, words: &[&str], answer: &mut String) -> Result<(), AllocError> {
     let [cdb, count] = words else {
         return Ok(());

@@ -14,7 +14,7 @@ use Rattle.model_medium.specs.declared.ReadEnd.{ReadEnd}
 use Rattle.model_medium.specs.declared.ReadEnd.TheVariants as reads
 use Rattle.model_medium.specs.declared.WriteEnd.{WriteEnd}
 use Rattle.model_medium.specs.declared.WriteEnd.TheVariants as writes
-use Rattle.model_image.specs.Cells.{state_place, data_place, data_in, image_len}
+use Rattle.model_image.specs.Cells.{state_offset, data_offset, data_in, image_len}
 use Rattle.model_image.specs.Writes.{with_state, dead_state, torn_state, good_state, worn_bytes, bytes_by, bytes_left, StopsInBytes}
 use Rattle.model_image.proofs.Changes.{same_part}
 use Rattle.ram_image.specs.EventBytes.{ReadBytes, WriteBytes, WearsBytes, LeavesBytes, MayWearBytes, MayLeaveBytes}
@@ -24,7 +24,7 @@ module _ (total block : ℕ) (inside : block < total) where
   -- the bytes of an image whose data in this block are the same
   record Spares (before after : List ℕ) : Type 0 where
     as_long : length after ≡ length before
-    same : (k : ℕ) → data_place total block ≤ k → k < data_place total block + 32768 → slice_index after k ≡ slice_index before k
+    same : (k : ℕ) → data_offset total block ≤ k → k < data_offset total block + 32768 → slice_index after k ≡ slice_index before k
 
   spares_none : (held : List ℕ) → Spares held held
   spares_none held = record { as_long = refl; same = λ k low high. refl }
@@ -39,20 +39,20 @@ module _ (total block : ℕ) (inside : block < total) where
   module _ (used : ℕ) (used_inside : used < total) (held : List ℕ) (long : length held ≡ image_len total) where
     state_spares : (state : ℕ) → Spares held (with_state used state held)
     state_spares state = record {
-      as_long = length-put_at (state_place used) (state ∷ []) held (omega (arith, long, used_inside));
-      same = λ k low high. get_or-put_at-past k (state_place used) (state ∷ []) held 0 (let past : state_place used + 1 ≤ k = omega (arith, low, used_inside) in past) (omega (arith, long, used_inside));
+      as_long = length-put_at (state_offset used) (state ∷ []) held (omega (arith, long, used_inside));
+      same = λ k low high. get_or-put_at-past k (state_offset used) (state ∷ []) held 0 (let past : state_offset used + 1 ≤ k = omega (arith, low, used_inside) in past) (omega (arith, long, used_inside));
     }
 
     worn_spares : (dies : Bool) → Spares held (worn_bytes dies used held)
     worn_spares true = state_spares dead_state
     worn_spares false = spares_none held
 
-    data_spares : (from : List ℕ) → length from ≡ 32768 → used ≢ block → Spares held (put_at (data_place total used) from held)
+    data_spares : (from : List ℕ) → length from ≡ 32768 → used ≢ block → Spares held (put_at (data_offset total used) from held)
     data_spares from whole other = record {
-      as_long = length-put_at (data_place total used) from held (omega (arith, long, used_inside, whole));
+      as_long = length-put_at (data_offset total used) from held (omega (arith, long, used_inside, whole));
       same = λ k low high. elim (cases_lt used block) [
-        | inl before ↦ get_or-put_at-past k (data_place total used) from held 0 (let past : data_place total used + length from ≤ k = omega (arith, low, before, whole) in past) (omega (arith, long, used_inside))
-        | inr after ↦ get_or-put_at-below k (data_place total used) from held 0 (let below : k < data_place total used = omega (arith, high, after, other) in below) (omega (arith, long, used_inside))
+        | inl before ↦ get_or-put_at-past k (data_offset total used) from held 0 (let past : data_offset total used + length from ≤ k = omega (arith, low, before, whole) in past) (omega (arith, long, used_inside))
+        | inr after ↦ get_or-put_at-below k (data_offset total used) from held 0 (let below : k < data_offset total used = omega (arith, high, after, other) in below) (omega (arith, long, used_inside))
       ];
     }
 
@@ -61,7 +61,7 @@ module _ (total block : ℕ) (inside : block < total) where
     by_spares fates.Old = spares_none held
     by_spares fates.New =
         let put = data_spares used used_inside held long from whole other in
-        spares_then held (put_at (data_place total used) from held) _ put (state_spares used used_inside (put_at (data_place total used) from held) (put.as_long ∙ long) good_state)
+        spares_then held (put_at (data_offset total used) from held) _ put (state_spares used used_inside (put_at (data_offset total used) from held) (put.as_long ∙ long) good_state)
     by_spares fates.Torn = state_spares used used_inside held long torn_state
 
     if_spares : (fate : Fate) (dead : Bool) → Spares held (if dead then held else bytes_by fate total used from held)
@@ -69,7 +69,7 @@ module _ (total block : ℕ) (inside : block < total) where
     if_spares fate false = by_spares fate
 
     left_spares : (fate : Fate) → Spares held (bytes_left fate total used from held)
-    left_spares fate = if_spares fate (slice_index held (state_place used) == dead_state)
+    left_spares fate = if_spares fate (slice_index held (state_offset used) == dead_state)
 
     stops_spares : (after : List ℕ) → StopsInBytes total used from held after → Spares held after
     stops_spares after stops = record {
@@ -164,4 +164,4 @@ module _ (total block : ℕ) (inside : block < total) where
       → data_in total after block ≡ data_in total before block
   data_stay old new before after underwent long none =
       let spares = events_spare (record { machine = old; bytes = Some before }) (record { machine = new; bytes = Some after }) underwent.0 underwent.1 none long in
-      same_part (data_place total block) 32768 before after spares.as_long spares.same
+      same_part (data_offset total block) 32768 before after spares.as_long spares.same

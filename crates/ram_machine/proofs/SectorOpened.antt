@@ -8,7 +8,7 @@ use Rattle.std.proofs.lemmas.List.Elements.{All-nil, All-cons}
 use Rattle.std.proofs.lemmas.List.FromFn.{length-map-range_with_len}
 use Rattle.model_geometry.specs.Geometry.{Shape, total}
 use Rattle.model_medium.specs.Cells.{Cell, Blank, Good, Torn, Dead, cell_at, AreWhole}
-use Rattle.model_image.specs.Cells.{cells_of, cell_in, data_in, data_place, image_len}
+use Rattle.model_image.specs.Cells.{cells_of, cell_in, data_in, data_offset, image_len}
 use Rattle.model_image.specs.Image.{IsDiscImage}
 use Rattle.model_image.proofs.Writes.{cell_at-cells_of}
 use Rattle.model_image.proofs.WholeCells.{cells_of-whole}
@@ -122,8 +122,8 @@ module _ (at : ℕ) where
           found.0,
           (
               ap (λ (h : List ℕ). bytes_of_sector (16 * block_with at) h at) (sym found.1)
-              ∙ piece_of_piece (data_place blocks home) 32768 (2048 * (at - 16 * block_with at)) 2048 image place_fits
-              ∙ ap (λ (k : ℕ). take 2048 (drop (data_place blocks home + 2048 * k) image)) in_block
+              ∙ piece_of_piece (data_offset blocks home) 32768 (2048 * (at - 16 * block_with at)) 2048 image place_fits
+              ∙ ap (λ (k : ℕ). take 2048 (drop (data_offset blocks home + 2048 * k) image)) in_block
               ),
         )
     cell_holds home Torn is = tt

@@ -4,7 +4,7 @@ use Rattle.std.specs.Prelude.{◌≡◌, ℕ, ◌+◌, ◌*◌, ◌%◌, ◌<◌
 use Rattle.std.specs.List.{Contains}
 use Rattle.model_sectors.specs.Discs.{zeros}
 use Rattle.model_sectors.specs.Requests.{blocks_covered}
-use Rattle.model_image.specs.Cells.{data_place, image_len}
+use Rattle.model_image.specs.Cells.{data_offset, image_len}
 use Rattle.model_modes.specs.ParameterLists.{caches_after}
 use Rattle.model_cache.specs.declared.TheConstants.{CACHED_AT_ONCE}
 use Rattle.model_drive.specs.declared.Kind.{Kind}
@@ -162,7 +162,7 @@ abbrev pub MayHold : List ℕ → (at : ℕ) → Value → Type 0
 MayHold image at Lost = Unit {0}
 MayHold image at (Bytes bytes) =
     (total : ℕ) × (block : ℕ) × (length image ≡ image_len total) × (block < total)
-    × (bytes ≡ take 2048 (drop (data_place total block + 2048 * (at % 16)) image))
+    × (bytes ≡ take 2048 (drop (data_offset total block + 2048 * (at % 16)) image))
 
 -- What it is when an image of these bytes was opened: the power is off.
 pub record IsOpened (image : List ℕ) (at : ℕ) (r : Register) : Type 0 where

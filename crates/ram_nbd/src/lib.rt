@@ -4,5 +4,6 @@
 #![tactic(auto)]
 
 pub mod commands;
+pub mod handshake;
 pub mod replies;
 pub mod requests;

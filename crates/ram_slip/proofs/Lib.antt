@@ -1,6 +1,6 @@
 pub mod Named
 pub mod Slips
-pub mod OnePlace
+pub mod OneRole
 pub mod Validity
 pub mod Spares
 pub mod Counted

@@ -1,5 +1,5 @@
 use Rattle.std.specs.Prelude.{◌≡◌, ◌≤◌, vec_capacity}
-use Rattle.ram_certify.proofs.Certified.{HasCertifiedUpTo}
+use Rattle.ram_certify.proofs.CertifiedUpTo.{HasCertifiedUpTo}
 use Rattle.ram_certify.proofs.blocks.certify_blocks.Given as goal
 
 abbrev pub invariant-loop-n : goal.invariant-loop-n
