@@ -1,12 +1,16 @@
 -- The messages of the NBD protocol in bytes: what a client sends, and what it is sent. Numbers have their highest byte first.
 -- (After the NBD protocol, fixed newstyle, with simple replies.)
-use Rattle.std.specs.Prelude.{◌≡◌, ℕ, ◌<◌, ◌^◌, ◌==◌, if◌then◌else◌, List, [], ◌∷◌, ◌++◌, length, codes}
+use Rattle.std.specs.Prelude.{◌≡◌, ℕ, ◌<◌, ◌^◌, ◌==◌, if◌then◌else◌, Bool, List, [], ◌∷◌, ◌++◌, length, codes}
 use Rattle.byteorder.specs.Endian.{big_bytes}
 use Rattle.model_nbd.specs.declared.Header.{Header}
 
 -- What a client is greeted with: two signatures, and the flags FIXED_NEWSTYLE and NO_ZEROES.
 abbrev pub greeting : List ℕ
 greeting = codes "NBDMAGICIHAVEOPT" ++ big_bytes 2 3
+
+-- The client's flags, which follow the greeting: FIXED_NEWSTYLE, and NO_ZEROES if it does not want the padding of EXPORT_NAME.
+abbrev pub client_flags : (zeros : Bool) → List ℕ
+client_flags zeros = big_bytes 4 (if zeros then 1 else 3)
 
 -- an option that a client sends in the handshake: its number, and its data
 pub record OptionRequest : Type 0 where
@@ -18,9 +22,13 @@ pub record IsOptionRequest (option : OptionRequest) : Type 0 where
   pub number_fits : option.number < 2 ^ 32
   pub length_fits : length option.payload < 2 ^ 32
 
+-- the 16 bytes that begin an option: the signature, its number, and the length of its data
+abbrev pub option_head_bytes : (number length : ℕ) → List ℕ
+option_head_bytes number length = codes "IHAVEOPT" ++ big_bytes 4 number ++ big_bytes 4 length
+
 -- the bytes of an option
 abbrev pub option_bytes : OptionRequest → List ℕ
-option_bytes option = codes "IHAVEOPT" ++ big_bytes 4 option.number ++ big_bytes 4 (length option.payload) ++ option.payload
+option_bytes option = option_head_bytes option.number (length option.payload) ++ option.payload
 
 -- a reply to an option: its number, the type of the reply, and data
 abbrev pub option_reply : (number kind : ℕ) → List ℕ → List ℕ

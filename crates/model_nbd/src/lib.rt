@@ -74,6 +74,42 @@ pub enum NextPhase {
     Violation,
 }
 
+/// The option NBD_OPT_EXPORT_NAME.
+pub const EXPORT_NAME: u32 = 1;
+
+/// The option NBD_OPT_ABORT.
+pub const ABORT: u32 = 2;
+
+/// The option NBD_OPT_LIST.
+pub const LIST: u32 = 3;
+
+/// The option NBD_OPT_INFO.
+pub const INFO: u32 = 6;
+
+/// The option NBD_OPT_GO.
+pub const GO: u32 = 7;
+
+/// The reply NBD_REP_ACK.
+pub const ACKNOWLEDGED: u32 = 1;
+
+/// The reply NBD_REP_SERVER, which names an export.
+pub const SERVER: u32 = 2;
+
+/// The reply NBD_REP_INFO, which tells of an export.
+pub const FACT: u32 = 3;
+
+/// The reply NBD_REP_ERR_UNSUP, to an option that is not known.
+pub const UNSUPPORTED: u32 = 0x8000_0001;
+
+/// The reply NBD_REP_ERR_INVALID, to data that the option may not have.
+pub const INVALID: u32 = 0x8000_0003;
+
+/// The reply NBD_REP_ERR_UNKNOWN, where there is no such export.
+pub const UNKNOWN: u32 = 0x8000_0006;
+
+/// The reply NBD_REP_ERR_TOO_BIG, to more data than are taken.
+pub const TOO_BIG: u32 = 0x8000_0009;
+
 /// The command NBD_CMD_READ.
 pub const READ: u16 = 0;
 
