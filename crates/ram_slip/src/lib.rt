@@ -24,6 +24,6 @@ mod zones;
 
 pub use few::{is_inside, slipped_in, slips_few};
 pub use role::{Role, a_block_has_one_role};
-pub use slip::{data_block, role_of, primary_left, spare_turn};
+pub use slip::{data_block, primary_left, role_of, spare_turn};
 pub use valid::{is_valid_pdl, is_valid_ssa};
 pub use zones::{shares_pool, zone_count, zone_first};

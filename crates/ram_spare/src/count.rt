@@ -8,7 +8,7 @@ ghost use Rattle.ram_spare.specs.Spares.{both_lists};
 use model_lists::SdlEntry;
 use ram_dds::DdsPdl;
 use ram_sdl::Sdl;
-use ram_slip::{Role, role_of, primary_left};
+use ram_slip::{Role, primary_left, role_of};
 use ram_zones::Geometry;
 
 /// How many spares are free, in each of the two areas.
