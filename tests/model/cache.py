@@ -1,7 +1,7 @@
 """A drive with a write cache: what is pending, and when it goes to the disc."""
 from __future__ import annotations
 
-from typing import Dict
+from typing import Dict, List
 
 from .drive import UNREADABLE, Check, Drive, parts
 from .lists import SECTORS_IN_BLOCK
@@ -27,10 +27,22 @@ class CachedDrive(Drive):
         super().cut()
         self.pending = {}
 
-    def flush(self, logical: int) -> None:
-        """Writes a pending block to the disc. It stays pending where that is refused."""
-        super().write(SECTORS_IN_BLOCK * logical, self.pending[logical])
-        del self.pending[logical]
+    def drain(self, due: List[int], enough: int) -> None:
+        """Writes pending blocks to the disc, each once, in turn, until enough have left. One that is refused
+        goes behind all others; where too few left the first refusal is told."""
+        refusals: List[Check] = []
+        for logical in due:
+            if not enough:
+                return
+            block = self.pending.pop(logical)
+            try:
+                super().write(SECTORS_IN_BLOCK * logical, block)
+                enough -= 1
+            except Check as check:
+                self.pending[logical] = block
+                refusals.append(check)
+        if enough:
+            raise refusals[0]
 
     def read(self, first: int, count: int) -> bytes:
         read = b""
@@ -47,14 +59,14 @@ class CachedDrive(Drive):
         if self.caches and not through and len(covered) <= BLOCKS_AT_ONCE:
             self.write_into_cache(first, data)
             return
-        for logical in [logical for logical in self.pending if logical in covered]:
-            self.flush(logical)
+        due = [logical for logical in self.pending if logical in covered]
+        self.drain(due, len(due))
         super().write(first, data)
 
     def write_into_cache(self, first: int, data: bytes) -> None:
         covered = [part.logical for part in parts(first, len(data) // SECTOR)]
-        while len({*self.pending, *covered}) > PENDING_BLOCKS:
-            self.flush(next(logical for logical in self.pending if logical not in covered))
+        due = [logical for logical in self.pending if logical not in covered]
+        self.drain(due, max(0, len(due) + len(covered) - PENDING_BLOCKS))
         blocks: Dict[int, bytes] = {}
         for part in parts(first, len(data) // SECTOR):
             old = self.pending.get(part.logical, bytes(SECTOR * SECTORS_IN_BLOCK))
@@ -69,9 +81,8 @@ class CachedDrive(Drive):
         self.pending.update(blocks)
 
     def synchronize(self) -> None:
-        """Writes all pending blocks to the disc, the oldest first, up to the first that is refused."""
-        for logical in list(self.pending):
-            self.flush(logical)
+        """Writes all pending blocks to the disc."""
+        self.drain(list(self.pending), len(self.pending))
 
     def tick(self) -> str:
         """Writes the oldest pending block to the disc, and tells how that went."""
@@ -81,7 +92,7 @@ class CachedDrive(Drive):
             return "idle"
         oldest = next(iter(self.pending))
         try:
-            self.flush(oldest)
+            self.drain([oldest], 1)
         except Check as check:
             return f"check {check.sense}"
         return f"written {SECTORS_IN_BLOCK * oldest}"

@@ -212,6 +212,8 @@ class Target:
         elif block.code == Code.FORMAT_UNIT:
             self.format_unit(block, data)
         elif block.moves_disc:
+            if not block.bytes[4] & 0x01:
+                self.drive.synchronize()
             self.out = not block.bytes[4] & 0x01
         elif block.code == Code.PREVENT_ALLOW:
             self.prevented = bool(block.bytes[4] & 0x01)
@@ -248,10 +250,14 @@ class Target:
             self.drive.format(rewriting=data[1] & 0xa0 == 0xa0, forgets=bool(block.bytes[1] & 0x08))
 
     def mode_select(self, data: bytes) -> None:
-        """Sets WCE as the last caching page says."""
+        """Sets WCE as the last caching page says. Before the cache is turned off the disc is synchronised."""
+        caches = self.drive.caches
         for page in pages_of(data):
             if page[0] == CACHING:
-                self.drive.caches = bool(page[2] & WCE)
+                caches = bool(page[2] & WCE)
+        if not caches:
+            self.drive.synchronize()
+        self.drive.caches = caches
 
     def sense(self) -> bytes:
         told = self.kept or (ATTENTION if self.attention else Sense(0, 0x00, 0x00))

@@ -242,8 +242,13 @@ class Promise:
             self.format(data, answer)
         elif block.code == Code.SYNCHRONIZE_CACHE and answer.is_good:
             self.sectors.change_all(lambda r: [synchronised(r)])
+        elif block.moves_disc and not block.bytes[4] & 0x01 and answer.is_good:
+            self.sectors.change_all(lambda r: [synchronised(r)])
         elif block.code == Code.MODE_SELECT and answer.is_good:
-            self.caches = caches_after(data, self.caches)
+            caches = caches_after(data, self.caches)
+            if self.caches and not caches:
+                self.sectors.change_all(lambda r: [synchronised(r)])
+            self.caches = caches
         elif answer.is_cut:
             self.sectors.all_are_gone()
 

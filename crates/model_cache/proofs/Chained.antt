@@ -1,5 +1,5 @@
 -- What holds of each call of the disc, and of one after another, holds of each call of a drive with a write cache.
-use Rattle.std.specs.Prelude.{◌≡◌, ℕ, zero, suc, ◌+◌, ◌*◌, ◌⊎◌, Bool, true, false, MatchBool, Option, Some, None, List, [], ◌∷◌}
+use Rattle.std.specs.Prelude.{◌≡◌, ℕ, zero, suc, ◌+◌, ◌*◌, ◌⊎◌, Bool, true, false, MatchBool, Option, Some, None, List, [], ◌∷◌, length}
 use Rattle.std.proofs.Common.{sym, inl, inr, subst}
 use Rattle.model_buffer.specs.Buffer.{bytes_at}
 use Rattle.model_sectors.specs.Requests.{block_with, blocks_covered, is_partly}
@@ -15,8 +15,9 @@ use Rattle.model_cache.specs.declared.SyncOut.TheVariants as syncs
 use Rattle.model_cache.specs.declared.TickOut.{TickOut}
 use Rattle.model_cache.specs.declared.TickOut.TheVariants as ticks
 use Rattle.model_cache.specs.Shown.{CacheShown, dropped, pending_in, pending_covered, goes_into_cache}
-use Rattle.model_cache.specs.Chains.{LeavesSound, WritesBack, FlushesAll, EndsFlushing}
-use Rattle.model_cache.specs.Causes.{ReadsPart, ReadsParts, EndsReading, ReadPartsCause, CacheReadBy, CacheReadCause, WritesThrough, StopsWritingThrough, ThroughCauseOf, ThroughCause, leaving, ReadsRest, ReadsRests, GoesIntoCache, EndsRest, LacksRestInCache, CachedCauseOf, CachedCause, CacheWriteCause, SyncCauseOf, SyncCause, TickCauseOf, TickCause}
+use Rattle.model_cache.specs.Chains.{LeavesSound}
+use Rattle.model_cache.specs.Drains.{IsRefusal, Tries, DrainCause}
+use Rattle.model_cache.specs.Causes.{ReadsPart, ReadsParts, EndsReading, ReadPartsCause, CacheReadBy, CacheReadCause, WritesThrough, StopsWritingThrough, DrainsCovered, ThroughCauseOf, ThroughCause, leave_first, MakesRoom, ReadsRest, ReadsRests, GoesIntoCache, EndsRest, LacksRestInCache, CachedCauseOf, CachedCause, CacheWriteCause, DrainsAll, SyncCause, TriesOldest, TickCauseOf, TickCause}
 
 -- whether what the medium lies on failed
 abbrev pub read_faulted : ReadOut → Bool
@@ -50,16 +51,41 @@ module _ (P : (faulted : Bool) → Shown → Shown → Type 0) (holds : HoldsOfC
   same_but : (old new : CacheShown) → new ≡ dropped old → P false old.drive new.drive
   same_but old new is = subst (λ (s : CacheShown). P false old.drive s.drive) (sym is) (holds.none old.drive)
 
-  -- ---- flushes
+  -- ---- drains
 
-  pub flushed : (due : List ℕ) (old new : CacheShown) → FlushesAll old due new → P false old.drive new.drive
-  flushed [] old new is = same old new is
-  flushed (i ∷ due) old new is =
-      holds.join false old.drive is.0.drive new.drive (holds.write old.drive is.0.drive (16 * i) 16 writes.Good is.1.back.leaves is.1.back.wrote) (flushed due is.0 new is.2)
+  refused : (a b : Shown) (i : ℕ) (out : WriteOut) → IsRefusal out → P (write_faulted out) a b → P false a b
+  refused a b i (writes.NoSpare named) is p = p
+  refused a b i (writes.NoUpdate counter) is p = p
+  refused a b i _ is p = absurd is
 
-  ended : (due : List ℕ) (old new : CacheShown) (out : WriteOut) → EndsFlushing old new due out → P (write_faulted out) old.drive new.drive
-  ended due old new out p =
-      holds.join (write_faulted out) old.drive p.mid.drive new.drive (flushed p.done old p.mid p.flushed) (holds.write p.mid.drive new.drive (16 * p.block) 16 out p.ends.leaves p.ends.wrote)
+  tried : (due : List ℕ) (enough short : ℕ) (old new : CacheShown) (first : Option WriteOut) → Tries old due enough new short first → P false old.drive new.drive
+  tried due zero short old new first p = same old new p.0
+  tried [] (suc enough) short old new first p = same old new p.0
+  tried (i ∷ due) (suc enough) short old new first (inl (mid, flush, later)) =
+      holds.join false old.drive mid.drive new.drive (holds.write old.drive mid.drive (16 * i) 16 writes.Good flush.back.leaves flush.back.wrote) (tried due enough short mid new first later)
+  tried (i ∷ due) (suc enough) short old new first (inr (mid, out, told, is, later, first_is)) =
+      holds.join false old.drive mid.drive new.drive (refused old.drive mid.drive i out is.refused (holds.write old.drive mid.drive (16 * i) 16 out is.back.leaves is.back.wrote))
+      (tried due (suc enough) short mid new told later)
+
+  pub drained : (due : List ℕ) (enough : ℕ) (old new : CacheShown) (out : WriteOut) → DrainCause old new due enough out → P (write_faulted out) old.drive new.drive
+  drained due enough old new writes.Good p = tried due enough 0 old new p.0 p.1
+  drained due enough old new (writes.NoSpare named) p = tried due enough (suc p.short) old new (Some (writes.NoSpare named)) p.tried
+  drained due enough old new (writes.NoUpdate counter) p = tried due enough (suc p.short) old new (Some (writes.NoUpdate counter)) p.tried
+  drained due enough old new writes.Cut p =
+      holds.join false old.drive p.mid.drive new.drive (tried p.done enough (suc p.short) old p.mid p.first p.tried) (holds.write p.mid.drive new.drive (16 * p.block) 16 writes.Cut p.stops.leaves p.stops.wrote)
+  drained due enough old new writes.Fault p =
+      holds.join true old.drive p.mid.drive new.drive (tried p.done enough (suc p.short) old p.mid p.first p.tried) (holds.write p.mid.drive new.drive (16 * p.block) 16 writes.Fault p.stops.leaves p.stops.wrote)
+  drained due enough old new writes.NotFormatted p = absurd p
+  drained due enough old new (writes.Range known) p = absurd p
+  drained due enough old new (writes.Unread named block) p = absurd p
+  drained due enough old new writes.Off p = absurd p
+
+  -- all of those that are covered, or as many of the others as have to leave
+  covered_drained : (lba n : ℕ) (old new : CacheShown) (out : WriteOut) → DrainsCovered old new lba n out → P (write_faulted out) old.drive new.drive
+  covered_drained lba n old new out p = drained (pending_covered true old lba n) (length (pending_covered true old lba n)) old new out p
+
+  room_made : (lba n : ℕ) (old new : CacheShown) (out : WriteOut) → MakesRoom old new lba n out → P (write_faulted out) old.drive new.drive
+  room_made lba n old new out p = drained (pending_covered false old lba n) (leave_first old lba n) old new out p
 
   -- ---- a read
 
@@ -103,10 +129,10 @@ module _ (P : (faulted : Bool) → Shown → Shown → Type 0) (holds : HoldsOfC
 
     through : (old new : CacheShown) (out : WriteOut) → WritesThrough old new lba n out → P (write_faulted out) old.drive new.drive
     through old new out p =
-        holds.join (write_faulted out) old.drive p.mid.drive new.drive (flushed (pending_covered true old lba n) old p.mid p.flushed) (holds.write p.mid.drive new.drive lba n out p.leaves p.wrote)
+        holds.join (write_faulted out) old.drive p.mid.drive new.drive (covered_drained lba n old p.mid writes.Good p.drained) (holds.write p.mid.drive new.drive lba n out p.leaves p.wrote)
 
     stopped_through : (old new : CacheShown) (out : WriteOut) → StopsWritingThrough old new lba n out → P (write_faulted out) old.drive new.drive
-    stopped_through old new out (inside, inl ends) = ended (pending_covered true old lba n) old new out ends
+    stopped_through old new out (inside, inl ends) = covered_drained lba n old new out ends
     stopped_through old new out (inside, inr wrote) = through old new out wrote
 
     through_of : (old new : CacheShown) (out : WriteOut) → ThroughCauseOf old new lba n out → P (write_faulted out) old.drive new.drive
@@ -155,17 +181,17 @@ module _ (P : (faulted : Bool) → Shown → Shown → Type 0) (holds : HoldsOfC
 
     lacking : (old new : CacheShown) (out : WriteOut) → LacksRestInCache old new lba n out → P (write_faulted out) old.drive new.drive
     lacking old new out p =
-        holds.join (write_faulted out) old.drive p.mid.drive new.drive (flushed (leaving old lba n) old p.mid p.flushed)
+        holds.join (write_faulted out) old.drive p.mid.drive new.drive (room_made lba n old p.mid writes.Good p.drained)
         (holds.join (write_faulted out) p.mid.drive p.late.drive new.drive (rests p.before p.mid p.late p.rests)
         (told (block_with lba + p.before) p.late.drive new.drive p.read_out out p.tells (holds.read p.late.drive new.drive (16 * (block_with lba + p.before)) 16 p.read_out p.ends.leaves p.ends.cause)))
 
     went_in : (bytes : List ℕ) (old new : CacheShown) → GoesIntoCache old new lba n bytes → P false old.drive new.drive
     went_in bytes old new p =
-        holds.join false old.drive p.mid.drive new.drive (flushed (leaving old lba n) old p.mid p.flushed)
+        holds.join false old.drive p.mid.drive new.drive (room_made lba n old p.mid writes.Good p.drained)
         (subst (P false p.mid.drive) (sym p.comes.same_drive) (rests (blocks_covered lba n) p.mid p.late p.rests))
 
-    stopped_cached : (old new : CacheShown) (out : WriteOut) → EndsFlushing old new (leaving old lba n) out ⊎ LacksRestInCache old new lba n out → P (write_faulted out) old.drive new.drive
-    stopped_cached old new out (inl ends) = ended (leaving old lba n) old new out ends
+    stopped_cached : (old new : CacheShown) (out : WriteOut) → MakesRoom old new lba n out ⊎ LacksRestInCache old new lba n out → P (write_faulted out) old.drive new.drive
+    stopped_cached old new out (inl ends) = room_made lba n old new out ends
     stopped_cached old new out (inr lacks) = lacking old new out lacks
 
     cached_of : (bytes : List ℕ) (old new : CacheShown) (out : WriteOut) → CachedCauseOf old new lba n bytes out → P (write_faulted out) old.drive new.drive
@@ -173,8 +199,8 @@ module _ (P : (faulted : Bool) → Shown → Shown → Type 0) (holds : HoldsOfC
     cached_of bytes old new writes.NotFormatted p = absurd p
     cached_of bytes old new (writes.Range known) p = same_but old new p.nothing
     cached_of bytes old new (writes.Unread named block) p = lacking old new (writes.Unread named block) p.1
-    cached_of bytes old new (writes.NoSpare named) p = ended (leaving old lba n) old new (writes.NoSpare named) p.1
-    cached_of bytes old new (writes.NoUpdate counter) p = ended (leaving old lba n) old new (writes.NoUpdate counter) p.1
+    cached_of bytes old new (writes.NoSpare named) p = room_made lba n old new (writes.NoSpare named) p.1
+    cached_of bytes old new (writes.NoUpdate counter) p = room_made lba n old new (writes.NoUpdate counter) p.1
     cached_of bytes old new writes.Cut p = stopped_cached old new writes.Cut p.1
     cached_of bytes old new writes.Off p = absurd p
     cached_of bytes old new writes.Fault p = stopped_cached old new writes.Fault p.1
@@ -199,35 +225,29 @@ module _ (P : (faulted : Bool) → Shown → Shown → Type 0) (holds : HoldsOfC
 
   -- ---- a synchronisation, and the write of the oldest pending block
 
-  sync_of : (old new : CacheShown) (out : SyncOut) → SyncCauseOf old new out → P (sync_faulted out) old.drive new.drive
-  sync_of old new syncs.Good p = flushed (pending_in old) old new p.flushed
-  sync_of old new syncs.NotFormatted p = absurd p
-  sync_of old new (syncs.NoSpare lba) p = ended (pending_in old) old new (writes.NoSpare lba) p.ends
-  sync_of old new (syncs.NoUpdate counter) p = ended (pending_in old) old new (writes.NoUpdate counter) p.ends
-  sync_of old new syncs.Cut p = ended (pending_in old) old new writes.Cut p.ends
-  sync_of old new syncs.Off p = absurd p
-  sync_of old new syncs.Fault p = ended (pending_in old) old new writes.Fault p.ends
+  drained_all : (old new : CacheShown) (out : WriteOut) → DrainsAll old new out → P (write_faulted out) old.drive new.drive
+  drained_all old new out p = drained (pending_in old) (length (pending_in old)) old new out p.drained
 
   pub of_sync : (old new : CacheShown) (out : SyncOut) → SyncCause old new out → P (sync_faulted out) old.drive new.drive
-  of_sync old new syncs.Good p = sync_of (dropped old) new syncs.Good p
+  of_sync old new syncs.Good p = drained_all (dropped old) new writes.Good p
   of_sync old new syncs.NotFormatted p = same_but old new p.nothing
-  of_sync old new (syncs.NoSpare lba) p = sync_of (dropped old) new (syncs.NoSpare lba) p
-  of_sync old new (syncs.NoUpdate counter) p = sync_of (dropped old) new (syncs.NoUpdate counter) p
-  of_sync old new syncs.Cut p = sync_of (dropped old) new syncs.Cut p
+  of_sync old new (syncs.NoSpare lba) p = drained_all (dropped old) new (writes.NoSpare lba) p
+  of_sync old new (syncs.NoUpdate counter) p = drained_all (dropped old) new (writes.NoUpdate counter) p
+  of_sync old new syncs.Cut p = drained_all (dropped old) new writes.Cut p
   of_sync old new syncs.Off p = same old new p.nothing
-  of_sync old new syncs.Fault p = sync_of (dropped old) new syncs.Fault p
+  of_sync old new syncs.Fault p = drained_all (dropped old) new writes.Fault p
 
-  written_back : (i : ℕ) (old new : CacheShown) (out : WriteOut) → WritesBack old new i out → P (write_faulted out) old.drive new.drive
-  written_back i old new out p = holds.write old.drive new.drive (16 * i) 16 out p.leaves p.wrote
+  tried_oldest : (old new : CacheShown) (out : WriteOut) → TriesOldest old new out → P (write_faulted out) old.drive new.drive
+  tried_oldest old new out p = drained (p.block ∷ []) 1 old new out p.drained
 
   tick_of : (old new : CacheShown) (out : TickOut) → TickCauseOf old new out → P (tick_faulted out) old.drive new.drive
   tick_of old new ticks.Idle p = same old new p.nothing
-  tick_of old new (ticks.Written lba) p = written_back p.block old new writes.Good p.flushed.back
-  tick_of old new (ticks.NoSpare lba) p = written_back p.block old new (writes.NoSpare lba) p.ends
-  tick_of old new (ticks.NoUpdate counter) p = written_back p.block old new (writes.NoUpdate counter) p.ends
-  tick_of old new ticks.Cut p = written_back p.block old new writes.Cut p.ends
+  tick_of old new (ticks.Written lba) p = tried_oldest old new writes.Good p.0
+  tick_of old new (ticks.NoSpare lba) p = tried_oldest old new (writes.NoSpare lba) p
+  tick_of old new (ticks.NoUpdate counter) p = tried_oldest old new (writes.NoUpdate counter) p
+  tick_of old new ticks.Cut p = tried_oldest old new writes.Cut p
   tick_of old new ticks.Off p = absurd p
-  tick_of old new ticks.Fault p = written_back p.block old new writes.Fault p.ends
+  tick_of old new ticks.Fault p = tried_oldest old new writes.Fault p
 
   pub of_tick : (old new : CacheShown) (out : TickOut) → TickCause old new out → P (tick_faulted out) old.drive new.drive
   of_tick old new ticks.Idle p = tick_of (dropped old) new ticks.Idle p

@@ -30,7 +30,7 @@ use Rattle.model_cache.specs.declared.SyncOut.{SyncOut}
 use Rattle.model_cache.specs.declared.SyncOut.TheVariants as syncs
 use Rattle.model_cache.specs.declared.TickOut.{TickOut}
 use Rattle.model_cache.specs.declared.TickOut.TheVariants as ticks
-use Rattle.model_cache.specs.Values.{Values, Contents, Has, MayHave, HasValue, HasBlock, IsTaken, AreTaken, settled_values, no_values, with_older, lifted, candidates_of, with_written, cached, values_now, is_among}
+use Rattle.model_cache.specs.Values.{Values, Contents, Has, MayHave, HasValue, HasBlock, IsTaken, AreTaken, settled_values, settled_but, waits, no_values, with_older, lifted, candidates_of, with_written, cached, values_now, is_among}
 use Rattle.model_cache.specs.Shown.{CacheShown, goes_into_cache}
 use Rattle.model_cache.specs.Steps.{ReadContents, VerifyContents, ExpandContents, SyncContents, TickContents, PowerContents, ThroughContents, CachedContents, WriteContents, FormatContents, FormatValues, FullValues}
 use Rattle.model_cache.specs.Falling.{EachValue, FallsTo, AreAmong, FallsWithin, value_written, LiesIn, Misses}
@@ -115,17 +115,21 @@ module _ (P : List ℕ → Type 0) (i : ℕ) where
   verify_falls (MayHave all) t reads.Off p within = subst (FallsTo P i) p within
   verify_falls (MayHave all) t _ p within = absurd p
 
-  pub sync_falls : (s t : Contents) (out : SyncOut) → SyncContents (λ x. x ≡ t) s out → FallsTo P i s → FallsTo P i t
-  sync_falls (Has v) t syncs.Good p within =
+  settled_too : (pending : List (ℕ × List ℕ)) (v : Values) → EachValue P i v → EachValue P i (settled_but pending v)
+  settled_too pending v each has bytes (inl e) = each has bytes (inl e)
+  settled_too pending v each has bytes (inr older) = each has bytes (inr (Contains-passed {X = ℕ × List ℕ} (λ (held : ℕ × List ℕ). waits pending held.0) v.older (i, bytes) older).1)
+
+  pub sync_falls : (new : CacheShown) (s t : Contents) (out : SyncOut) → SyncContents new (λ x. x ≡ t) s out → FallsTo P i s → FallsTo P i t
+  sync_falls new (Has v) t syncs.Good p within =
       subst (FallsTo P i) p (one (settled_values v.disc) (settled_within v.disc (λ has. only v within has (block_of v.disc i) (inl refl))))
-  sync_falls (Has v) t syncs.NotFormatted p within = subst (FallsTo P i) (p.1) within
-  sync_falls (Has v) t (syncs.NoSpare lba) p within = subst (FallsTo P i) p within
-  sync_falls (Has v) t (syncs.NoUpdate counter) p within = subst (FallsTo P i) p within
-  sync_falls (Has v) t syncs.Cut p within = subst (FallsTo P i) p (two v v (only v within) (only v within))
-  sync_falls (Has v) t syncs.Off p within = absurd p
-  sync_falls (Has v) t syncs.Fault p within = subst (FallsTo P i) p (two v v (only v within) (only v within))
-  sync_falls (MayHave all) t syncs.Off p within = subst (FallsTo P i) p within
-  sync_falls (MayHave all) t _ p within = absurd p
+  sync_falls new (Has v) t syncs.NotFormatted p within = subst (FallsTo P i) (p.1) within
+  sync_falls new (Has v) t (syncs.NoSpare lba) p within = subst (FallsTo P i) p (one (settled_but new.pending v) (settled_too new.pending v (only v within)))
+  sync_falls new (Has v) t (syncs.NoUpdate counter) p within = subst (FallsTo P i) p (one (settled_but new.pending v) (settled_too new.pending v (only v within)))
+  sync_falls new (Has v) t syncs.Cut p within = subst (FallsTo P i) p (two v v (only v within) (only v within))
+  sync_falls new (Has v) t syncs.Off p within = absurd p
+  sync_falls new (Has v) t syncs.Fault p within = subst (FallsTo P i) p (two v v (only v within) (only v within))
+  sync_falls new (MayHave all) t syncs.Off p within = subst (FallsTo P i) p within
+  sync_falls new (MayHave all) t _ p within = absurd p
 
   pub tick_falls : (s t : Contents) (out : TickOut) → TickContents (λ x. x ≡ t) s out → FallsTo P i s → FallsTo P i t
   tick_falls (Has v) t ticks.Idle p within = subst (FallsTo P i) p within
@@ -162,8 +166,8 @@ module _ (P : List ℕ → Type 0) (i : ℕ) where
   expand_falls (MayHave all) t sectors _ p within = absurd p
 
 -- after a synchronisation each block has its last value alone
-pub synchronised : (v : Values) (t : Contents) (i : ℕ) → SyncContents (λ x. x ≡ t) (Has v) syncs.Good → FallsWithin (block_of v.disc i ∷ []) i t
-synchronised v t i p =
+pub synchronised : (v : Values) (t : Contents) (i : ℕ) (new : CacheShown) → SyncContents new (λ x. x ≡ t) (Has v) syncs.Good → FallsWithin (block_of v.disc i ∷ []) i t
+synchronised v t i new p =
     subst (FallsWithin (block_of v.disc i ∷ []) i) p (one (Contains (block_of v.disc i ∷ [])) i (settled_values v.disc)
     (settled_within (Contains (block_of v.disc i ∷ [])) i v.disc (λ has. Contains-first (block_of v.disc i) [])))
 

@@ -1,6 +1,6 @@
 -- After blocks were flushed one after another each of them has whole bytes in its home: the home of a block that is flushed has them,
 -- and a flush leaves the homes of the others.
-use Rattle.std.specs.Prelude.{◌≡◌, ◌≢◌, ℕ, ◌+◌, ◌*◌, ◌<◌, ◌≤◌, nat_lt, Option, Some, List, [], ◌∷◌, length}
+use Rattle.std.specs.Prelude.{◌≡◌, ◌≢◌, ℕ, ◌+◌, ◌*◌, ◌<◌, ◌≤◌, nat_lt, suc, zero, Option, Some, List, [], ◌∷◌, length}
 use Rattle.std.specs.Option.{option_map_or}
 use Rattle.std.specs.List.{Contains}
 use Rattle.std.proofs.Common.{arith, refl, sym, ap, ◌∙◌, inl, inr, subst}
@@ -14,6 +14,7 @@ use Rattle.model_places.specs.Places.{Lists, logical_count, home_of}
 use Rattle.model_places.specs.Valid.{AreValid}
 use Rattle.model_volume.proofs.ListCells.{no_data_block_second}
 use Rattle.model_volume.proofs.Moved.{home_is_data_block, homes_apart, home_not_free}
+use Rattle.model_drive.specs.declared.WriteOut.{WriteOut}
 use Rattle.model_drive.specs.declared.WriteOut.TheVariants as writes
 use Rattle.model_drive.specs.Shown.{Shown, IsKnown, block_count, cells_in, home, home_cell}
 use Rattle.model_drive.specs.Sound.{IsSound}
@@ -24,12 +25,13 @@ use Rattle.model_drive.proofs.WriteTurns.{inside_count}
 use Rattle.model_drive.proofs.Kept.{write_kept}
 use Rattle.model_cache.specs.declared.SyncOut.TheVariants as syncs
 use Rattle.model_cache.specs.Shown.{CacheShown, dropped, pending_in, pending_below}
-use Rattle.model_cache.specs.Chains.{Flushes, FlushesAll}
+use Rattle.model_cache.specs.Chains.{Flushes}
+use Rattle.model_cache.specs.Drains.{Tries}
 use Rattle.model_cache.specs.Causes.{SyncCause}
 use Rattle.model_cache.proofs.Members.{Contains-none, Contains-first, Contains-later, Contains-cases, Contains-kept}
 
 -- a block that a course does not come to is where it was
-after_other : (shape : Shape) (lists : Lists) (first : ℕ) (valid : AreValid shape lists) (course : List Placing) → first + length course ≤ logical_count shape lists → CanTakeCourse shape lists first course
+pub after_other : (shape : Shape) (lists : Lists) (first : ℕ) (valid : AreValid shape lists) (course : List Placing) → first + length course ≤ logical_count shape lists → CanTakeCourse shape lists first course
     → (j : ℕ) → j < logical_count shape lists → ((k : ℕ) → k < length course → j ≢ first + k) → home_of shape (lists_reached shape lists first course) j ≡ home_of shape lists j
 after_other shape lists first valid [] inside can j h apart = refl
 after_other shape lists first valid (placing ∷ earlier) inside can j h apart =
@@ -38,10 +40,10 @@ after_other shape lists first valid (placing ∷ earlier) inside can j h apart =
     ∙ after_other shape lists first valid earlier (omega (arith, inside)) can.1 j h (λ k h. apart k (omega (arith, h)))
 
 -- the home by the lists in use
-home_is : (shown : Shown) (lists : Lists) (j : ℕ) → shown.lists ≡ Some lists → home shown j ≡ home_of shown.shape lists j
+pub home_is : (shown : Shown) (lists : Lists) (j : ℕ) → shown.lists ≡ Some lists → home shown j ≡ home_of shown.shape lists j
 home_is shown lists j in_use = ap (λ (o : Option Lists). option_map_or (λ l. home_of shown.shape l j) o 0) in_use
 
-count_is : (shown : Shown) (lists : Lists) → shown.lists ≡ Some lists → block_count shown ≡ logical_count shown.shape lists
+pub count_is : (shown : Shown) (lists : Lists) → shown.lists ≡ Some lists → block_count shown ≡ logical_count shown.shape lists
 count_is shown lists in_use = ap (λ (o : Option Lists). option_map_or (logical_count shown.shape) o 0) in_use
 
 -- a write of sectors that was answered Good
@@ -102,10 +104,10 @@ module _ (old new : Shown) (lba n : ℕ) (same_shape : new.shape ≡ old.shape) 
 
 -- ---- one flush
 
-one_covered : (i : ℕ) → blocks_covered (16 * i) 16 ≡ 0 + 1
+pub one_covered : (i : ℕ) → blocks_covered (16 * i) 16 ≡ 0 + 1
 one_covered i = omega arith
 
-its_block : (i : ℕ) → block_with (16 * i) + 0 ≡ i
+pub its_block : (i : ℕ) → block_with (16 * i) + 0 ≡ i
 its_block i = omega arith
 
 pub first_alone : (i k : ℕ) → k < blocks_covered (16 * i) 16 → block_with (16 * i) + k ≡ i
@@ -129,7 +131,7 @@ module _ (old new : CacheShown) (i : ℕ) (flush : Flushes old new i) (sound : I
   pub flush_counts : block_count new.drive ≡ block_count old.drive
   flush_counts = count_stays old.drive new.drive (16 * i) 16 flush.back.leaves.same_shape sound flush.back.wrote
 
-  flush_inside : i < block_count old.drive
+  pub flush_inside : i < block_count old.drive
   flush_inside =
       let p = flush.back.wrote in
       let count = one_covered i in
@@ -140,6 +142,26 @@ module _ (old new : CacheShown) (i : ℕ) (flush : Flushes old new i) (sound : I
   flush_known known = (write_kept old.drive new.drive (16 * i) 16 writes.Good flush.back.wrote).as_known ∙ known
 
 -- ---- one after another
+
+-- these blocks were flushed, and none was refused
+abbrev pub FlushesAll : CacheShown → List ℕ → CacheShown → Type 0
+FlushesAll old [] new = new ≡ old
+FlushesAll old (i ∷ due) new = (mid : CacheShown) × Flushes old mid i × FlushesAll mid due new
+
+-- no more leave than are due
+at_most : (due : List ℕ) (enough short : ℕ) (old new : CacheShown) (first : Option WriteOut) → Tries old due enough new short first → enough ≤ length due + short
+at_most due zero short old new first tries = omega arith
+at_most [] (suc enough) short old new first tries = let is = tries.1 in omega (arith, is)
+at_most (i ∷ due) (suc enough) short old new first (inl (mid, flush, later)) = let few = at_most due enough short mid new first later in omega (arith, few)
+at_most (i ∷ due) (suc enough) short old new first (inr (mid, out, told, is, later, first_is)) = let few = at_most due (suc enough) short mid new told later in omega (arith, few)
+
+-- so none was refused where all left
+pub all_flushed : (due : List ℕ) (enough : ℕ) (old new : CacheShown) (first : Option WriteOut) → length due ≤ enough → Tries old due enough new 0 first → FlushesAll old due new
+all_flushed [] zero old new first all tries = tries.0
+all_flushed [] (suc enough) old new first all tries = tries.0
+all_flushed (i ∷ due) zero old new first all tries = absurd (omega (arith, all))
+all_flushed (i ∷ due) (suc enough) old new first all (inl (mid, flush, later)) = (mid, flush, all_flushed due enough mid new first (omega (arith, all)) later)
+all_flushed (i ∷ due) (suc enough) old new first all (inr (mid, out, told, is, later, first_is)) = let few = at_most due (suc enough) 0 mid new told later in absurd (omega (arith, few, all))
 
 -- a block that has whole bytes in its home keeps them
 pub stays_good : (due : List ℕ) (old new : CacheShown) → IsSound old.drive → IsKnown old.drive → FlushesAll old due new → (j : ℕ) → j < block_count old.drive
@@ -184,4 +206,5 @@ is_due shown i bytes has inside =
 pub synced_good : (old new : CacheShown) → SyncCause old new syncs.Good → IsSound old.drive → IsKnown old.drive → (i : ℕ) (bytes : List ℕ)
     → Contains {X = ℕ × List ℕ} old.pending (i, bytes) → i < block_count old.drive → IsGood (home_cell new.drive i)
 synced_good old new cause sound known i bytes has inside =
-    all_good (pending_in (dropped old)) (dropped old) new sound known cause.flushed i (is_due old i bytes has inside)
+    all_good (pending_in (dropped old)) (dropped old) new sound known
+    (all_flushed (pending_in (dropped old)) (length (pending_in (dropped old))) (dropped old) new cause.drained.0 (omega arith) cause.drained.1) i (is_due old i bytes has inside)

@@ -1,7 +1,6 @@
 -- A caller that needs what a drive with a write cache stands for afterwards finds it in the step.
 use Rattle.std.specs.Prelude.{ℕ, ◌+◌, Bool, true, false, MatchBool, Option, Some, None, List, [], ◌∷◌, ◌⊎◌}
 use Rattle.std.proofs.Common.{◌≡◌, refl, inl, inr}
-use Rattle.model_sectors.specs.Discs.{Off}
 use Rattle.model_sectors.specs.Requests.{block_with, blocks_covered}
 use Rattle.model_sectors.specs.declared.ReadOut.{ReadOut}
 use Rattle.model_sectors.specs.declared.ReadOut.TheVariants as reads
@@ -23,7 +22,7 @@ use Rattle.model_cache.specs.declared.SyncOut.{SyncOut}
 use Rattle.model_cache.specs.declared.SyncOut.TheVariants as syncs
 use Rattle.model_cache.specs.declared.TickOut.{TickOut}
 use Rattle.model_cache.specs.declared.TickOut.TheVariants as ticks
-use Rattle.model_cache.specs.Values.{Values, Contents, Has, MayHave, candidates_of, settled_values, no_values, with_older, with_written, cached}
+use Rattle.model_cache.specs.Values.{Values, Contents, Has, MayHave, candidates_of, settled_values, settled_but, no_values, with_older, with_written, cached}
 use Rattle.model_cache.specs.Shown.{CacheShown, goes_into_cache}
 use Rattle.model_cache.specs.Steps.{ReadContents, VerifyContents, ThroughValues, CachedValues, FullValues, FormatValues, ThroughContents, CachedContents, WriteContents, FormatContents, ExpandContents, SyncContents, TickContents, PowerContents}
 
@@ -65,16 +64,16 @@ module _ (after : Contents → Type 0) where
   expand_found (MayHave all) sectors expands.Off step = (MayHave all, step, refl)
   expand_found (MayHave all) sectors _ step = absurd step
 
-  pub sync_found : (s : Contents) (out : SyncOut) → SyncContents after s out → FoundBy (λ is. SyncContents is s out)
-  sync_found (Has v) syncs.Good step = (Has (settled_values v.disc), step, refl)
-  sync_found (Has v) syncs.NotFormatted step = (Has v, step.1, (step.0, refl))
-  sync_found (Has v) (syncs.NoSpare lba) step = (Has v, step, refl)
-  sync_found (Has v) (syncs.NoUpdate counter) step = (Has v, step, refl)
-  sync_found (Has v) syncs.Cut step = (MayHave (v ∷ v ∷ []), step, refl)
-  sync_found (Has v) syncs.Off step = absurd step
-  sync_found (Has v) syncs.Fault step = (MayHave (v ∷ v ∷ []), step, refl)
-  sync_found (MayHave all) syncs.Off step = (MayHave all, step, refl)
-  sync_found (MayHave all) _ step = absurd step
+  pub sync_found : (new : CacheShown) (s : Contents) (out : SyncOut) → SyncContents new after s out → FoundBy (λ is. SyncContents new is s out)
+  sync_found new (Has v) syncs.Good step = (Has (settled_values v.disc), step, refl)
+  sync_found new (Has v) syncs.NotFormatted step = (Has v, step.1, (step.0, refl))
+  sync_found new (Has v) (syncs.NoSpare lba) step = (Has (settled_but new.pending v), step, refl)
+  sync_found new (Has v) (syncs.NoUpdate counter) step = (Has (settled_but new.pending v), step, refl)
+  sync_found new (Has v) syncs.Cut step = (MayHave (v ∷ v ∷ []), step, refl)
+  sync_found new (Has v) syncs.Off step = absurd step
+  sync_found new (Has v) syncs.Fault step = (MayHave (v ∷ v ∷ []), step, refl)
+  sync_found new (MayHave all) syncs.Off step = (MayHave all, step, refl)
+  sync_found new (MayHave all) _ step = absurd step
 
   pub tick_found : (s : Contents) (out : TickOut) → TickContents after s out → FoundBy (λ is. TickContents is s out)
   tick_found (Has v) ticks.Idle step = (Has v, step, refl)

@@ -10,4 +10,8 @@ pub mod Found
 pub mod Standing
 pub mod Counting
 pub mod FlushedHomes
+pub mod Refusals
+pub mod Spareless
+pub mod Behind
+pub mod Settled
 pub mod Completing

@@ -1,5 +1,5 @@
 -- With the cache off and nothing pending the calls are those of the disc.
-use Rattle.std.proofs.Common.{◌≡◌, ℕ, Bool, false, List, [], ◌∷◌, ◌++◌, Option, Some, None, inl, inr, refl, sym, ap, ◌∙◌, subst, arith, map}
+use Rattle.std.proofs.Common.{◌≡◌, ◌≢◌, ℕ, suc, Bool, false, List, [], ◌∷◌, ◌++◌, Option, Some, None, inl, inr, refl, sym, ap, ◌∙◌, subst, arith, map}
 use Rattle.std.specs.List.{Contains}
 use Rattle.model_sectors.specs.Discs.{Standing, On, Off, candidates}
 use Rattle.model_sectors.specs.declared.ReadOut.{ReadOut}
@@ -26,6 +26,7 @@ use Rattle.model_drive.specs.Power.{PowerCause, PowerStep, FindsDisc}
 use Rattle.model_cache.specs.Values.{Contents, MayHave, lifted, plain, with_older, settled_values, candidates_of}
 use Rattle.model_cache.specs.Shown.{CacheShown}
 use Rattle.model_cache.specs.Chains.{leaves_pending}
+use Rattle.model_cache.specs.Drains.{DrainCause}
 use Rattle.model_cache.specs.Steps.{SomePending, FindsValues, FullValues, FormatValues, ReadContents, VerifyContents, WriteContents, FormatContents, ExpandContents, PowerContents}
 use Rattle.model_cache.specs.Causes.{CacheReadCause, CacheVerifyCause, CacheWriteCause, CacheFormatCause, CacheExpandCause, CachePowerCause, WritesThrough, StopsWritingThrough, leaves_after_read, leaves_after_format, leaves_after_full, leaves_after_expansion}
 use Rattle.model_cache.proofs.SameBlocks.{same_taken}
@@ -42,6 +43,18 @@ is_uncached new none off = ap (λ p. made new.drive p new.caches) none ∙ ap (m
 none_behind : (done rest : List ℕ) (block : ℕ) → [] ≡ done ++ block ∷ rest → ⊥
 none_behind [] rest block e = cc
 none_behind (x ∷ done) rest block e = cc
+
+-- a drain of no block is good
+pub none_drained : (old new : CacheShown) (out : WriteOut) → DrainCause old new [] 0 out → (out ≡ writes.Good) × (new ≡ old)
+none_drained old new writes.Good p = (refl, p.1.0)
+none_drained old new (writes.NoSpare named) p = absurd (let e : suc p.short ≡ 0 = p.tried.1 in cc)
+none_drained old new (writes.NoUpdate counter) p = absurd (let e : suc p.short ≡ 0 = p.tried.1 in cc)
+none_drained old new writes.Cut p = absurd (none_behind p.done p.rest p.block p.due_is)
+none_drained old new writes.Fault p = absurd (none_behind p.done p.rest p.block p.due_is)
+none_drained old new writes.NotFormatted p = absurd p
+none_drained old new (writes.Range known) p = absurd p
+none_drained old new (writes.Unread named block) p = absurd p
+none_drained old new writes.Off p = absurd p
 
 none_left : (out : WriteOut) → leaves_pending out [] ≡ []
 none_left writes.Cut = refl
@@ -124,12 +137,13 @@ module _ (drive : Shown) (new : CacheShown) where
   -- a write on the disc
   through : (lba n : ℕ) (out : WriteOut) → WritesThrough (uncached drive) new lba n out → LeavesUncached new (WriteCause drive new.drive lba n out)
   through lba n out p =
-      let none : new.pending ≡ [] = p.left ∙ ap (λ (s : CacheShown). leaves_pending out s.pending) p.flushed ∙ none_left out in
-      (subst (λ (s : CacheShown). WriteCause s.drive new.drive lba n out) p.flushed p.wrote, is_uncached new none p.same_mode)
+      let same : p.mid ≡ uncached drive = (none_drained (uncached drive) p.mid writes.Good p.drained).1 in
+      let none : new.pending ≡ [] = p.left ∙ ap (λ (s : CacheShown). leaves_pending out s.pending) same ∙ none_left out in
+      (subst (λ (s : CacheShown). WriteCause s.drive new.drive lba n out) same p.wrote, is_uncached new none p.same_mode)
 
-  stops_through : (lba n : ℕ) (out : WriteOut) → StopsWritingThrough (uncached drive) new lba n out → LeavesUncached new (WriteCause drive new.drive lba n out)
-  stops_through lba n out (inside, inl p) = absurd (none_behind p.done p.rest p.block p.due_is)
-  stops_through lba n out (inside, inr p) = through lba n out p
+  stops_through : (lba n : ℕ) (out : WriteOut) → out ≢ writes.Good → StopsWritingThrough (uncached drive) new lba n out → LeavesUncached new (WriteCause drive new.drive lba n out)
+  stops_through lba n out not_good (inside, inl p) = absurd (not_good (none_drained (uncached drive) new out p).0)
+  stops_through lba n out not_good (inside, inr p) = through lba n out p
 
   pub plain_write_cause : (lba n : ℕ) (bytes : List ℕ) (out : WriteOut) → CacheWriteCause (uncached drive) new lba n bytes out
       → LeavesUncached new (WriteCause drive new.drive lba n out)
@@ -141,14 +155,14 @@ module _ (drive : Shown) (new : CacheShown) where
   plain_write_cause lba n bytes (writes.Range known) p =
       (p.past, is_uncached new (ap (λ (s : CacheShown). s.pending) p.nothing) (ap (λ (s : CacheShown). s.caches) p.nothing))
   plain_write_cause lba n bytes (writes.Unread named block) p = through lba n (writes.Unread named block) (p.1)
-  plain_write_cause lba n bytes (writes.NoSpare named) p = stops_through lba n (writes.NoSpare named) p
-  plain_write_cause lba n bytes (writes.NoUpdate counter) p = stops_through lba n (writes.NoUpdate counter) p
-  plain_write_cause lba n bytes writes.Cut p = stops_through lba n writes.Cut p
+  plain_write_cause lba n bytes (writes.NoSpare named) p = stops_through lba n (writes.NoSpare named) (λ is. cc) p
+  plain_write_cause lba n bytes (writes.NoUpdate counter) p = stops_through lba n (writes.NoUpdate counter) (λ is. cc) p
+  plain_write_cause lba n bytes writes.Cut p = stops_through lba n writes.Cut (λ is. cc) p
   plain_write_cause lba n bytes writes.Off p = (
     record { off = p.off; nothing = ap (λ (s : CacheShown). s.drive) p.nothing },
     is_uncached new (ap (λ (s : CacheShown). s.pending) p.nothing) (ap (λ (s : CacheShown). s.caches) p.nothing),
   )
-  plain_write_cause lba n bytes writes.Fault p = stops_through lba n writes.Fault p
+  plain_write_cause lba n bytes writes.Fault p = stops_through lba n writes.Fault (λ is. cc) p
 
   -- a format, an expansion, and the power
   pub plain_format_cause : (kind : Kind) (out : FormatOut) → CacheFormatCause (uncached drive) new kind out

@@ -1,5 +1,5 @@
 -- Why each answer of a drive with a write cache comes, and what it shows then. (This project's own, as all here.)
-use Rattle.std.specs.Prelude.{◌≡◌, ℕ, zero, suc, ◌+◌, ◌-◌, ◌*◌, ◌<◌, ◌⊎◌, if◌then◌else◌, Bool, true, false, MatchBool, Option, Some, None, is_some, List, [], ◌∷◌, ◌++◌, length, map, take}
+use Rattle.std.specs.Prelude.{◌≡◌, ℕ, zero, suc, ◌+◌, ◌-◌, ◌*◌, ◌<◌, ◌⊎◌, if◌then◌else◌, Bool, true, false, MatchBool, Option, Some, None, is_some, List, [], ◌∷◌, ◌++◌, length, map}
 use Rattle.std.specs.List.{Contains}
 use Rattle.model_buffer.specs.Buffer.{bytes_at, numbers_in}
 use Rattle.model_sectors.specs.Requests.{block_with, blocks_covered, start_in, end_in, is_partly, merged_in}
@@ -29,7 +29,8 @@ use Rattle.model_cache.specs.declared.TickOut.TheVariants as ticks
 use Rattle.model_places.specs.Places.{Lists}
 use Rattle.model_cache.specs.Values.{is_among}
 use Rattle.model_cache.specs.Shown.{CacheShown, dropped, pending_in, pending_below, goes_into_cache, pending_covered}
-use Rattle.model_cache.specs.Chains.{LeavesSound, ReadsDisc, WritesBack, Flushes, FlushesAll, EndsFlushing, leaves_pending}
+use Rattle.model_cache.specs.Chains.{LeavesSound, ReadsDisc, leaves_pending}
+use Rattle.model_cache.specs.Drains.{DrainCause}
 
 -- The power was off, and nothing changed.
 pub record CacheWasOff (old new : CacheShown) : Type 0 where
@@ -109,19 +110,24 @@ abbrev pub CacheVerifyCause : CacheShown → CacheShown → (lba n : ℕ) → Re
 CacheVerifyCause old new lba n out = VerifyCause old.drive new.drive lba n out
     × (new.pending ≡ leaves_after_read out old.pending) × (new.caches ≡ old.caches)
 
--- A write on the disc itself, after the covered blocks that were pending were flushed.
+-- The pending blocks that the request covers were drained, all of them.
+abbrev pub DrainsCovered : CacheShown → CacheShown → (lba n : ℕ) → WriteOut → Type 0
+DrainsCovered old new lba n out =
+    DrainCause old new (pending_covered true old lba n) (length (pending_covered true old lba n)) out
+
+-- A write on the disc itself, after all covered blocks that were pending had left.
 pub record WritesThrough (old new : CacheShown) (lba n : ℕ) (out : WriteOut) : Type 0 where
   pub mid : CacheShown
-  pub flushed : FlushesAll old (pending_covered true old lba n) mid
+  pub drained : DrainsCovered old mid lba n writes.Good
   pub wrote : WriteCause mid.drive new.drive lba n out
   pub leaves : LeavesSound mid.drive new.drive
   pub left : new.pending ≡ leaves_pending out mid.pending
   pub same_mode : new.caches ≡ old.caches
 
--- one of those blocks could not be flushed, or the write on the disc was refused or stopped
+-- some of those blocks did not leave, and no write on the disc was made; or that was refused or stopped
 abbrev pub StopsWritingThrough : CacheShown → CacheShown → (lba n : ℕ) → WriteOut → Type 0
 StopsWritingThrough old new lba n out = IsInRange old.drive lba n
-    × (EndsFlushing old new (pending_covered true old lba n) out ⊎ WritesThrough old new lba n out)
+    × (DrainsCovered old new lba n out ⊎ WritesThrough old new lba n out)
 
 -- The cause of each answer of a write through the cache of a disc that has all pending blocks.
 abbrev pub ThroughCauseOf : CacheShown → CacheShown → (lba n : ℕ) → WriteOut → Type 0
@@ -141,9 +147,9 @@ ThroughCause old new lba n out = ThroughCauseOf (dropped old) new lba n out
 abbrev pub leave_first : CacheShown → (lba n : ℕ) → ℕ
 leave_first shown lba n = (length (pending_covered false shown lba n) + blocks_covered lba n) - CACHED_BLOCKS
 
--- the blocks that leave: the oldest of those that are not covered
-abbrev pub leaving : CacheShown → (lba n : ℕ) → List ℕ
-leaving shown lba n = take (leave_first shown lba n) (pending_covered false shown lba n)
+-- As many of those that are not covered were drained.
+abbrev pub MakesRoom : CacheShown → CacheShown → (lba n : ℕ) → WriteOut → Type 0
+MakesRoom old new lba n out = DrainCause old new (pending_covered false old lba n) (leave_first old lba n) out
 
 -- the rests of the first n blocks were read from the disc, where they are needed
 abbrev pub ReadsRest : CacheShown → CacheShown → (block : ℕ) → (partly : Bool) → Option (List ℕ) → Type 0
@@ -183,7 +189,7 @@ pub record ComesIn (old new : CacheShown) (lba n : ℕ) (bytes : List ℕ) : Typ
 pub record GoesIntoCache (old new : CacheShown) (lba n : ℕ) (bytes : List ℕ) : Type 0 where
   pub inside : IsInRange old.drive lba n
   pub mid : CacheShown
-  pub flushed : FlushesAll old (leaving old lba n) mid
+  pub drained : MakesRoom old mid lba n writes.Good
   pub late : CacheShown
   pub rests : ReadsRests mid late lba n (blocks_covered lba n)
   pub comes : ComesIn late new lba n bytes
@@ -198,7 +204,7 @@ EndsRest lba block _ out = ⊥
 -- The rest of a block could not be read.
 pub record LacksRestInCache (old new : CacheShown) (lba n : ℕ) (out : WriteOut) : Type 0 where
   pub mid : CacheShown
-  pub flushed : FlushesAll old (leaving old lba n) mid
+  pub drained : MakesRoom old mid lba n writes.Good
   pub before : ℕ
   pub covered : before < blocks_covered lba n
   pub late : CacheShown
@@ -220,10 +226,10 @@ CachedCauseOf old new lba n bytes (writes.Unread named block) =
     IsInRange old.drive lba n × LacksRestInCache old new lba n (writes.Unread named block)
 CachedCauseOf old new lba n bytes writes.Off = ⊥
 CachedCauseOf old new lba n bytes writes.Cut = IsInRange old.drive lba n
-    × (EndsFlushing old new (leaving old lba n) writes.Cut ⊎ LacksRestInCache old new lba n writes.Cut)
+    × (MakesRoom old new lba n writes.Cut ⊎ LacksRestInCache old new lba n writes.Cut)
 CachedCauseOf old new lba n bytes writes.Fault = IsInRange old.drive lba n
-    × (EndsFlushing old new (leaving old lba n) writes.Fault ⊎ LacksRestInCache old new lba n writes.Fault)
-CachedCauseOf old new lba n bytes out = IsInRange old.drive lba n × EndsFlushing old new (leaving old lba n) out
+    × (MakesRoom old new lba n writes.Fault ⊎ LacksRestInCache old new lba n writes.Fault)
+CachedCauseOf old new lba n bytes out = IsInRange old.drive lba n × MakesRoom old new lba n out
 
 abbrev pub CachedCause : CacheShown → CacheShown → (lba n : ℕ) → List ℕ → WriteOut → Type 0
 CachedCause old new lba n bytes writes.NotFormatted = CacheUnformatted old new
@@ -276,53 +282,27 @@ abbrev pub CacheExpandCause : CacheShown → CacheShown → ℕ → ExpandOut �
 CacheExpandCause old new sectors out = ExpandCause old.drive new.drive sectors out
     × (new.pending ≡ leaves_after_expansion new out old.pending) × (new.caches ≡ old.caches)
 
--- what a write of a pending block is told as
-abbrev pub sync_out : WriteOut → SyncOut
-sync_out writes.Good = syncs.Good
-sync_out writes.NotFormatted = syncs.NotFormatted
-sync_out (writes.Range known) = syncs.Off
-sync_out (writes.Unread lba block) = syncs.Off
-sync_out (writes.NoSpare lba) = syncs.NoSpare lba
-sync_out (writes.NoUpdate counter) = syncs.NoUpdate counter
-sync_out writes.Cut = syncs.Cut
-sync_out writes.Off = syncs.Off
-sync_out writes.Fault = syncs.Fault
+-- the write of a pending block that is told so
+abbrev pub as_write : SyncOut → WriteOut
+as_write syncs.Good = writes.Good
+as_write syncs.NotFormatted = writes.NotFormatted
+as_write (syncs.NoSpare lba) = writes.NoSpare lba
+as_write (syncs.NoUpdate counter) = writes.NoUpdate counter
+as_write syncs.Cut = writes.Cut
+as_write syncs.Off = writes.Off
+as_write syncs.Fault = writes.Fault
 
--- all pending blocks were flushed, oldest first
-pub record SyncsAll (old new : CacheShown) : Type 0 where
+-- all pending blocks were drained, oldest first, and it ended so
+pub record DrainsAll (old new : CacheShown) (out : WriteOut) : Type 0 where
   pub on : IsOn old.drive
   pub formatted : IsFormatted old.drive
-  pub flushed : FlushesAll old (pending_in old) new
+  pub drained : DrainCause old new (pending_in old) (length (pending_in old)) out
 
--- a pending block could not be flushed, or its write was stopped
-pub record StopsSyncing (old new : CacheShown) (out : WriteOut) : Type 0 where
-  pub on : IsOn old.drive
-  pub formatted : IsFormatted old.drive
-  pub ends : EndsFlushing old new (pending_in old) out
-
--- The cause of each answer of a synchronisation of a disc that has all pending blocks.
-abbrev pub SyncCauseOf : CacheShown → CacheShown → SyncOut → Type 0
-SyncCauseOf old new syncs.Good = SyncsAll old new
-SyncCauseOf old new syncs.NotFormatted = ⊥
-SyncCauseOf old new (syncs.NoSpare lba) = StopsSyncing old new (writes.NoSpare lba)
-SyncCauseOf old new (syncs.NoUpdate counter) = StopsSyncing old new (writes.NoUpdate counter)
-SyncCauseOf old new syncs.Cut = StopsSyncing old new writes.Cut
-SyncCauseOf old new syncs.Off = ⊥
-SyncCauseOf old new syncs.Fault = StopsSyncing old new writes.Fault
-
+-- The cause of each answer of a synchronisation.
 abbrev pub SyncCause : CacheShown → CacheShown → SyncOut → Type 0
 SyncCause old new syncs.NotFormatted = CacheUnformatted old new
 SyncCause old new syncs.Off = CacheWasOff old new
-SyncCause old new out = SyncCauseOf (dropped old) new out
-
--- The oldest pending block was flushed.
-pub record FlushesOldest (old new : CacheShown) (lba : ℕ) : Type 0 where
-  pub on : IsOn old.drive
-  pub block : ℕ
-  pub rest : List ℕ
-  pub oldest : pending_in old ≡ block ∷ rest
-  pub lba_is : lba ≡ 16 * block
-  pub flushed : Flushes old new block
+SyncCause old new out = DrainsAll (dropped old) new (as_write out)
 
 -- Nothing is pending.
 pub record IsIdle (old new : CacheShown) : Type 0 where
@@ -330,24 +310,23 @@ pub record IsIdle (old new : CacheShown) : Type 0 where
   pub none : old.pending ≡ []
   pub nothing : new ≡ old
 
--- it could not be flushed, or its write was stopped
-pub record StopsTick (old new : CacheShown) (out : WriteOut) : Type 0 where
+-- The oldest pending block was tried, and that ended so.
+pub record TriesOldest (old new : CacheShown) (out : WriteOut) : Type 0 where
   pub on : IsOn old.drive
   pub block : ℕ
   pub rest : List ℕ
   pub oldest : pending_in old ≡ block ∷ rest
-  pub ends : WritesBack old new block out
-  pub left : new.pending ≡ leaves_pending out old.pending
+  pub drained : DrainCause old new (block ∷ []) 1 out
 
 -- The cause of each answer of a tick.
 abbrev pub TickCauseOf : CacheShown → CacheShown → TickOut → Type 0
 TickCauseOf old new ticks.Idle = IsIdle old new
-TickCauseOf old new (ticks.Written lba) = FlushesOldest old new lba
-TickCauseOf old new (ticks.NoSpare lba) = StopsTick old new (writes.NoSpare lba)
-TickCauseOf old new (ticks.NoUpdate counter) = StopsTick old new (writes.NoUpdate counter)
-TickCauseOf old new ticks.Cut = StopsTick old new writes.Cut
+TickCauseOf old new (ticks.Written lba) = (tries : TriesOldest old new writes.Good) × (lba ≡ 16 * tries.block)
+TickCauseOf old new (ticks.NoSpare lba) = TriesOldest old new (writes.NoSpare lba)
+TickCauseOf old new (ticks.NoUpdate counter) = TriesOldest old new (writes.NoUpdate counter)
+TickCauseOf old new ticks.Cut = TriesOldest old new writes.Cut
 TickCauseOf old new ticks.Off = ⊥
-TickCauseOf old new ticks.Fault = StopsTick old new writes.Fault
+TickCauseOf old new ticks.Fault = TriesOldest old new writes.Fault
 
 abbrev pub TickCause : CacheShown → CacheShown → TickOut → Type 0
 TickCause old new ticks.Off = CacheWasOff old new

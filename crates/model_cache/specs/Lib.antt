@@ -1,6 +1,7 @@
 pub mod Values
 pub mod Shown
 pub mod Chains
+pub mod Drains
 pub mod Steps
 pub mod Causes
 pub mod Plain

@@ -28,7 +28,7 @@ use Rattle.model_cache.specs.declared.SyncOut.{SyncOut}
 use Rattle.model_cache.specs.declared.SyncOut.TheVariants as syncs
 use Rattle.model_cache.specs.declared.TickOut.{TickOut}
 use Rattle.model_cache.specs.declared.TickOut.TheVariants as ticks
-use Rattle.model_cache.specs.Values.{Values, Contents, Has, MayHave, lifted, plain, settled_values, no_values, candidates_of, AreTaken, IsPending, with_written, cached}
+use Rattle.model_cache.specs.Values.{Values, Contents, Has, MayHave, lifted, plain, settled_values, settled_but, no_values, candidates_of, AreTaken, IsPending, with_written, cached}
 use Rattle.model_cache.specs.Shown.{CacheShown, goes_into_cache}
 
 -- A block that the request covers is pending.
@@ -124,15 +124,15 @@ module _ (after : Contents → Type 0) (v : Values) where
   FormatValues old new None kinds.Rewrite out = FullValues old new out
   FormatValues old new (Some lists) kinds.Rewrite out = RewriteStep (λ t. after (lifted v.older t)) v.disc out
 
-  -- What a synchronisation makes of it: each block has its last value alone.
-  abbrev pub SyncValues : SyncOut → Type 0
-  SyncValues syncs.Good = after (Has (settled_values v.disc))
-  SyncValues syncs.NotFormatted = (v.disc ≡ []) × after (Has v)
-  SyncValues (syncs.NoSpare lba) = after (Has v)
-  SyncValues (syncs.NoUpdate counter) = after (Has v)
-  SyncValues syncs.Cut = StopsFlush
-  SyncValues syncs.Off = ⊥
-  SyncValues syncs.Fault = StopsFlush
+  -- What a synchronisation makes of it: each block has its last value alone, or each that is not pending now.
+  abbrev pub SyncValues : CacheShown → SyncOut → Type 0
+  SyncValues new syncs.Good = after (Has (settled_values v.disc))
+  SyncValues new syncs.NotFormatted = (v.disc ≡ []) × after (Has v)
+  SyncValues new (syncs.NoSpare lba) = after (Has (settled_but new.pending v))
+  SyncValues new (syncs.NoUpdate counter) = after (Has (settled_but new.pending v))
+  SyncValues new syncs.Cut = StopsFlush
+  SyncValues new syncs.Off = ⊥
+  SyncValues new syncs.Fault = StopsFlush
 
   -- What the writing of the oldest pending block makes of it: nothing new.
   abbrev pub TickValues : TickOut → Type 0
@@ -176,10 +176,10 @@ ExpandContents after (MayHave all) sectors expands.Off = after (MayHave all)
 ExpandContents after (MayHave all) sectors _ = ⊥
 
 -- What a synchronisation makes of it.
-abbrev pub SyncContents : (Contents → Type 0) → Contents → SyncOut → Type 0
-SyncContents after (Has v) out = SyncValues after v out
-SyncContents after (MayHave all) syncs.Off = after (MayHave all)
-SyncContents after (MayHave all) _ = ⊥
+abbrev pub SyncContents : CacheShown → (Contents → Type 0) → Contents → SyncOut → Type 0
+SyncContents new after (Has v) out = SyncValues after v new out
+SyncContents new after (MayHave all) syncs.Off = after (MayHave all)
+SyncContents new after (MayHave all) _ = ⊥
 
 -- What the writing of the oldest pending block makes of it.
 abbrev pub TickContents : (Contents → Type 0) → Contents → TickOut → Type 0

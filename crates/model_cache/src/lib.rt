@@ -4,9 +4,11 @@
 //! Begin with `specs/Values.antt`: the disc that is shown, and the values to which a block may fall back. Then
 //! `specs/Shown.antt`.
 //!
-//! - **Causes are data.** A call is a chain: these pending blocks were flushed, this was read, that was written. The uses of the
+//! - **Causes are data.** A call is a chain: these pending blocks were drained, this was read, that was written. The uses of the
 //!   medium, the lists in use and the buffered blocks follow from the links, each of which is a cause of `model_drive`, and are
 //!   not said twice.
+//! - **A drain goes on behind a refusal.** One recursion (`Tries` in `specs/Drains.antt`) serves all calls that flush: each due block
+//!   is tried once, in turn, until enough have left; a refused one goes behind all others.
 //! - **Each link says that the disc stays sound** (`LeavesSound`), since no cause says so of what a disc shows between two calls;
 //!   and a read of the disc says that it was quiet where all its blocks were buffered (`ReadsDisc`).
 //! - **Nothing new is said of the disc.** A read, a verification, an expansion and a rewriting format do with it what they do
@@ -35,10 +37,11 @@ mod laws;
 
 pub use laws::{
     a_block_falls_back_to_its_values, a_chain_counts_faults_as_its_links_do,
-    a_chain_keeps_the_label, a_drive_with_an_empty_cache_stands_for_its_disc,
+    a_chain_keeps_the_label, a_drain_goes_on_behind_a_refusal,
+    a_drive_with_an_empty_cache_stands_for_its_disc, a_refused_block_stays_pending,
     after_the_power_each_block_has_one_of_its_values, calls_that_flush_and_can_end_well_do,
-    what_is_flushed_is_in_its_home, what_is_synchronised_is_never_older,
-    without_the_cache_answers_have_the_causes_of_the_disc,
+    what_is_flushed_is_in_its_home, what_is_not_pending_is_settled,
+    what_is_synchronised_is_never_older, without_the_cache_answers_have_the_causes_of_the_disc,
     without_the_cache_calls_are_steps_of_the_disc,
 };
 
@@ -55,12 +58,13 @@ pub enum SyncOut {
     Good,
     /// The disc is not formatted.
     NotFormatted,
-    /// The home of a block is dead, and so are all spares that are free for it. The block stays pending.
+    /// The home of a block is dead, and so are all spares that are free for it. It is the first that was refused; all that were stay
+    /// pending, behind the others.
     NoSpare {
         /// Its first sector.
         lba: u32,
     },
-    /// The home of a block is dead, and the secondary list could not be updated. The block stays pending.
+    /// The home of a block is dead, and the secondary list could not be updated. It is the first that was refused, and so on.
     NoUpdate {
         /// The counter of the list.
         counter: u32,
@@ -83,12 +87,12 @@ pub enum TickOut {
         /// Its first sector.
         lba: u32,
     },
-    /// Its home is dead, and so are all spares that are free for it. It stays pending.
+    /// Its home is dead, and so are all spares that are free for it. It stays pending, behind the others.
     NoSpare {
         /// Its first sector.
         lba: u32,
     },
-    /// Its home is dead, and the secondary list could not be updated. It stays pending.
+    /// Its home is dead, and the secondary list could not be updated. It stays pending, behind the others.
     NoUpdate {
         /// The counter of the list.
         counter: u32,

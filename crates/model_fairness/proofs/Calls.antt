@@ -14,8 +14,7 @@ use Rattle.model_sectors.specs.declared.ReadOut.{ReadOut}
 use Rattle.model_sectors.specs.declared.ReadOut.TheVariants as reads
 use Rattle.model_sectors.specs.declared.PowerOut.{PowerOut}
 use Rattle.model_sectors.specs.declared.PowerOut.TheVariants as powers
-use Rattle.model_sectors.specs.Requests.{block_with, NamesBlock}
-use Rattle.model_sectors.proofs.Covering.{block_with_start}
+use Rattle.model_sectors.specs.Requests.{block_with}
 use Rattle.std.specs.Option.{option_map_or}
 use Rattle.std.specs.List.{Contains}
 use Rattle.model_lists.specs.Values.{defectives}
@@ -41,7 +40,7 @@ use Rattle.model_drive.specs.Parts.{KeepsLists, AreSameOrDead, OnlyDies, IsStopp
 use Rattle.model_drive.specs.Course.{IsUsable, Placing, ToSpare, TookCourse, lists_reached}
 use Rattle.model_drive.specs.Power.{MountsAny, PowerCause}
 use Rattle.model_drive.specs.Reads.{StopsInRead, ReadCause, VerifyCause}
-use Rattle.model_drive.specs.Writes.{LacksSpare, EndsWriting, StopsInWrite, WriteCause, next_block}
+use Rattle.model_drive.specs.Writes.{EndsWriting, StopsInWrite, WriteCause, next_block}
 use Rattle.model_drive.specs.Expands.{ssa_for, StopsInExpansion, ExpandCause}
 use Rattle.model_drive.specs.FullFormats.{StopsInFormat, FullCause}
 use Rattle.model_drive.specs.Rewriting.{RewriteCause}
@@ -270,32 +269,25 @@ module _ (old new : Shown) (same : new.shape ≡ old.shape) where
 
 -- ---- no spare
 
--- the sector that is named lies in the block
-named_block : (lba n named k : ℕ) → NamesBlock lba n named k → block_with named ≡ block_with lba + k
-named_block lba n named k is = ap block_with is.first ∙ block_with_start lba n k is.covered
-
 alive_decided : (cell : Cell) → (cell ≡ Dead) ⊎ ¬ (cell ≡ Dead)
 alive_decided Blank = inr (λ e. cc)
 alive_decided (Good bytes) = inr (λ e. cc)
 alive_decided Torn = inr (λ e. cc)
 alive_decided Dead = inl refl
 
-module _ (old new : Shown) (lba n named : ℕ) (lists : Lists) (fair : GivesUpDeadAlone new) (lacks : LacksSpare old new lba n named) (is : new.lists ≡ Some lists)
-    (spare : ℕ) (has : Contains (spares_of new.shape lists (block_with named)) spare) (replaces : ¬ Contains (replacements lists.sdl.entries) spare) where
-  its : Contains (spares_of new.shape lists (next_block lba lacks.course)) spare
-  its = subst (λ (i : ℕ). Contains (spares_of new.shape lists i) spare) (named_block lba n named (length lacks.course) lacks.is_named) has
-
-  usable : ¬ Contains (defectives lists.sdl.entries) spare → ¬ (cell_at (cells_in new) spare ≡ Dead) → IsUsable new (next_block lba lacks.course) spare
+module _ (shown : Shown) (i : ℕ) (lists : Lists) (fair : GivesUpDeadAlone shown) (none : (spare : ℕ) → ¬ IsUsable shown i spare) (is : shown.lists ≡ Some lists)
+    (spare : ℕ) (has : Contains (spares_of shown.shape lists i) spare) (replaces : ¬ Contains (replacements lists.sdl.entries) spare) where
+  usable : ¬ Contains (defectives lists.sdl.entries) spare → ¬ (cell_at (cells_in shown) spare ≡ Dead) → IsUsable shown i spare
   usable sound alive = record {
-    free = subst (λ (o : Option Lists). Contains (option_map_or (λ (l : Lists). free_spares new.shape l (next_block lba lacks.course)) o []) spare) (sym is) (Contains-free_in (pools_under new.shape lists) lists.sdl.entries (next_block lba lacks.course) spare its sound replaces);
+    free = subst (λ (o : Option Lists). Contains (option_map_or (λ (l : Lists). free_spares shown.shape l i) o []) spare) (sym is) (Contains-free_in (pools_under shown.shape lists) lists.sdl.entries i spare has sound replaces);
     lives = alive;
   }
 
-  pub none_left : cell_at (cells_in new) spare ≡ Dead
-  none_left = elim (alive_decided (cell_at (cells_in new) spare)) [
+  pub none_left : cell_at (cells_in shown) spare ≡ Dead
+  none_left = elim (alive_decided (cell_at (cells_in shown) spare)) [
     | inl dead ↦ dead
     | inr alive ↦ elim (contains_decided (defectives lists.sdl.entries) spare) [
       | inl listed ↦ (let entry = defective_member lists.sdl.entries spare listed in fair.in_use lists is (record { defective = spare; replacement = entry.0 }) entry.1)
-      | inr sound ↦ absurd (lacks.none spare (usable sound alive))
+      | inr sound ↦ absurd (none spare (usable sound alive))
     ]
   ]

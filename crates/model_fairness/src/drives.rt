@@ -20,7 +20,8 @@ ghost use Rattle.model_drive.specs.Sound.{IsSound};
 ghost use Rattle.model_drive.specs.Parts.{AreSameOrDead};
 ghost use Rattle.model_drive.specs.Power.{PowerCause};
 ghost use Rattle.model_drive.specs.Reads.{ReadCause, VerifyCause};
-ghost use Rattle.model_drive.specs.Writes.{WriteCause, LacksSpare};
+ghost use Rattle.model_drive.specs.Writes.{WriteCause};
+ghost use Rattle.model_drive.specs.Course.{IsUsable};
 ghost use Rattle.model_drive.specs.Expands.{ExpandCause};
 ghost use Rattle.model_drive.specs.Formats.{FormatCause};
 ghost use Rattle.model_fairness.specs.Fair.{GivesUpDeadAlone};
@@ -54,12 +55,11 @@ pub fn a_drive_gives_up_dead_blocks_alone()
         → AreSameOrDead (cells_in old) (cells_in new) → GivesUpDeadAlone old → GivesUpDeadAlone new }
 {}
 
-/// So where no spare is left for the block of a sector, each spare that it may go to, and that is the replacement of no block, is
-/// dead, also those that the lists gave up.
+/// So where no spare can be used for a logical block, each spare that it may go to, and that is the replacement of no block, is dead,
+/// also those that the lists gave up.
 pub fn no_spare_means_that_none_is_left()
-    ensures { (old new : Shown) (lba n named : ℕ) (lists : Lists) → GivesUpDeadAlone new
-        → LacksSpare old new lba n named → new.lists ≡ Some lists → (spare : ℕ)
-        → Contains (spares_of new.shape lists (block_with named)) spare
-        → ¬ Contains (replacements lists.sdl.entries) spare
-        → cell_at (cells_in new) spare ≡ Dead }
+    ensures { (shown : Shown) (i : ℕ) (lists : Lists) → GivesUpDeadAlone shown
+        → ((spare : ℕ) → ¬ IsUsable shown i spare) → shown.lists ≡ Some lists → (spare : ℕ)
+        → Contains (spares_of shown.shape lists i) spare → ¬ Contains (replacements lists.sdl.entries) spare
+        → cell_at (cells_in shown) spare ≡ Dead }
 {}

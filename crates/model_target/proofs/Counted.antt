@@ -1,5 +1,5 @@
 -- A command counts a fault where it answers Fault, and with no other answer.
-use Rattle.std.specs.Prelude.{◌≡◌, ℕ, ◌==◌, Bool, true, false, Result, Ok, Err, List}
+use Rattle.std.specs.Prelude.{◌≡◌, ℕ, ◌==◌, if◌then◌else◌, Bool, true, false, ◌&&◌, not, Result, Ok, Err, List, []}
 use Rattle.std.specs.Bool.{MatchBool}
 use Rattle.std.proofs.Common.{refl, sym, ◌∙◌, inl, inr, ap, subst}
 use Rattle.model_sectors.specs.declared.ReadOut.{ReadOut}
@@ -26,8 +26,10 @@ use Rattle.model_sense.specs.declared.answer.Answer.{Answer}
 use Rattle.model_sense.specs.declared.answer.Answer.TheVariants as answers
 use Rattle.model_cdb.specs.declared.commands.Command.{Command}
 use Rattle.model_cdb.specs.declared.commands.Command.TheVariants as commands
+use Rattle.model_modes.specs.ParameterLists.{caches_after}
 use Rattle.model_target.specs.declared.host.Host.{Host}
-use Rattle.model_target.specs.Steps.{read_answer, write_answer, format_answer, expand_answer, sync_answer, WrittenCause, IsAnswered, TellsStructure, TellsSpares, IsDone, IsAnsweredBy, IsStep, AnswerFaults}
+use Rattle.model_target.specs.Host.{is_good}
+use Rattle.model_target.specs.Steps.{read_answer, write_answer, format_answer, expand_answer, sync_answer, settle_answer, WrittenCause, IsSettled, TurnsOff, SetsCache, IsAnswered, TellsStructure, TellsSpares, IsDone, IsAnsweredBy, IsStep, AnswerFaults}
 
 -- a fault is counted where what the medium lies on failed, and none elsewhere
 abbrev pub CountsFaults : Bool → Shown → Shown → Type 0
@@ -36,7 +38,7 @@ CountsFaults false old new = faults new ≡ faults old
 
 joined : (faulted : Bool) (a b c : Shown) → CountsFaults false a b → CountsFaults faulted b c → CountsFaults faulted a c
 joined true a b c is rose = subst (λ (n : ℕ). Rose n (faults c)) is rose
-joined false a b c is then = then ∙ is
+joined false a b c is later = later ∙ is
 
 by_read : (a b : Shown) (lba n : ℕ) (out : ReadOut) → ReadCause a b lba n out → CountsFaults (read_faulted out) a b
 by_read a b lba n reads.Good cause = read_faults a b lba n reads.Good cause
@@ -96,6 +98,15 @@ module _ (old new : Shown) where
   sync_counted syncs.Off p = p
   sync_counted syncs.Fault p = p
 
+  settle_counted : (out : SyncOut) → CountsFaults (sync_faulted out) old new → AnswerFaults old new (settle_answer out)
+  settle_counted syncs.Good p = p
+  settle_counted syncs.NotFormatted p = p
+  settle_counted (syncs.NoSpare lba) p = p
+  settle_counted (syncs.NoUpdate counter) p = p
+  settle_counted syncs.Cut p = p
+  settle_counted syncs.Off p = p
+  settle_counted syncs.Fault p = p
+
   verify_counted : (out : ReadOut) → ReadFaults old new out → AnswerFaults old new (read_answer out)
   verify_counted reads.Good p = p
   verify_counted reads.NotFormatted p = p
@@ -138,13 +149,29 @@ module _ (old new : CacheShown) (before after : Contents → Type 0) where
   written_counted lba n payload true out cause = of_through CountsFaults counts_faults lba n old new out cause
   written_counted lba n payload false out cause = of_write CountsFaults counts_faults lba n payload old new out cause
 
+  start_counted : (ejected : Bool) (answer : Answer) (data_in : List ℕ) → MatchBool ejected (IsSettled old new before after answer data_in) (IsAnswered old new before after answer answers.Good data_in [])
+      → AnswerFaults old.drive new.drive answer
+  start_counted true answer data_in p = told old.drive new.drive answer _ p.answer_is (settle_counted old.drive new.drive p.out (of_sync CountsFaults counts_faults old new p.out p.cause))
+  start_counted false answer data_in p = quietly answer data_in _ p
+
+  same_drive : (good : Bool) (mid : CacheShown) → new ≡ (if good then record mid { caches = false } else mid) → mid.drive ≡ new.drive
+  same_drive true mid is = sym (ap (λ (s : CacheShown). s.drive) is)
+  same_drive false mid is = sym (ap (λ (s : CacheShown). s.drive) is)
+
+  select_counted : (off : Bool) (payload : List ℕ) (answer : Answer) (data_in : List ℕ) → MatchBool off (TurnsOff old new before after answer data_in) (SetsCache old new before after payload answer data_in)
+      → AnswerFaults old.drive new.drive answer
+  select_counted true payload answer data_in p =
+      told old.drive new.drive answer _ p.answer_is (settle_counted old.drive new.drive p.out
+      (subst (λ (d : Shown). CountsFaults (sync_faulted p.out) old.drive d) (same_drive (is_good answer) p.mid p.new_is) (of_sync CountsFaults counts_faults old p.mid p.out p.cause)))
+  select_counted false payload answer data_in p = told old.drive new.drive answer answers.Good p.answer_is (ap (λ (s : CacheShown). faults s.drive) p.mode)
+
   done_counted : (host : Host) (payload : List ℕ) (command : Command) (answer : Answer) (data_in : List ℕ) → IsDone old new before after host payload command answer data_in → AnswerFaults old.drive new.drive answer
   done_counted host payload commands.TestUnitReady answer data_in p = quietly answer data_in _ p
   done_counted host payload (commands.RequestSense alloc) answer data_in p = quietly answer data_in _ p
   done_counted host payload (commands.Format kind) answer data_in p = told old.drive new.drive answer _ p.answer_is (by_format old.drive new.drive p.out (format_faults old.drive new.drive kind p.out p.cause.0))
   done_counted host payload (commands.Expand sectors) answer data_in p = told old.drive new.drive answer _ p.answer_is (by_expand old.drive new.drive p.out (expand_faults old.drive new.drive sectors p.out p.cause.0))
   done_counted host payload (commands.Inquiry vital alloc) answer data_in p = quietly answer data_in _ p
-  done_counted host payload (commands.StartStop start eject) answer data_in p = quietly answer data_in _ p
+  done_counted host payload (commands.StartStop start eject) answer data_in p = start_counted (eject && not start) answer data_in p
   done_counted host payload (commands.Prevent on) answer data_in p = quietly answer data_in _ p
   done_counted host payload (commands.FormatCapacities alloc) answer data_in p = quietly answer data_in _ p
   done_counted host payload commands.ReadCapacity answer data_in p = quietly answer data_in _ p
@@ -155,7 +182,7 @@ module _ (old new : CacheShown) (before after : Contents → Type 0) where
   done_counted host payload (commands.Configuration rt start alloc) answer data_in p = quietly answer data_in _ p
   done_counted host payload (commands.Events media alloc) answer data_in p = quietly answer data_in _ p
   done_counted host payload (commands.DiscInformation alloc) answer data_in p = quietly answer data_in _ p
-  done_counted host payload commands.ModeSelect answer data_in p = told old.drive new.drive answer answers.Good p.answer_is (ap (λ (s : CacheShown). faults s.drive) p.mode)
+  done_counted host payload commands.ModeSelect answer data_in p = select_counted (old.caches && not (caches_after payload old.caches)) payload answer data_in p
   done_counted host payload (commands.ModeSense short control page alloc) answer data_in p = quietly answer data_in _ p
   done_counted host payload (commands.Structure format alloc) answer data_in p = structure_counted (format == 0x08) alloc answer data_in p
   done_counted host payload commands.Streaming answer data_in p = quietly answer data_in _ p

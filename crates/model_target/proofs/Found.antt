@@ -1,5 +1,5 @@
 -- What a command leaves a drive standing for, found in its step.
-use Rattle.std.specs.Prelude.{◌≡◌, ℕ, ◌==◌, Bool, true, false, Result, Ok, Err, List}
+use Rattle.std.specs.Prelude.{◌≡◌, ℕ, ◌==◌, Bool, true, false, ◌&&◌, not, Result, Ok, Err, List, []}
 use Rattle.std.specs.Bool.{MatchBool}
 use Rattle.std.proofs.Common.{sym, inl, inr, subst}
 use Rattle.model_drive.specs.declared.WriteOut.{WriteOut}
@@ -12,8 +12,9 @@ use Rattle.model_sense.specs.declared.answer.Answer.{Answer}
 use Rattle.model_sense.specs.declared.answer.Answer.TheVariants as answers
 use Rattle.model_cdb.specs.declared.commands.Command.{Command}
 use Rattle.model_cdb.specs.declared.commands.Command.TheVariants as commands
+use Rattle.model_modes.specs.ParameterLists.{caches_after}
 use Rattle.model_target.specs.declared.host.Host.{Host}
-use Rattle.model_target.specs.Steps.{WrittenContents, IsAnswered, TellsStructure, TellsSpares, IsDone, IsAnsweredBy, IsStep}
+use Rattle.model_target.specs.Steps.{WrittenContents, IsSettled, TurnsOff, SetsCache, IsAnswered, TellsStructure, TellsSpares, IsDone, IsAnsweredBy, IsStep}
 
 module _ (old new : CacheShown) (before after : Contents → Type 0) (s : Contents) (stood : before s) where
   -- what the drive stands for afterwards
@@ -40,6 +41,40 @@ module _ (old new : CacheShown) (before after : Contents → Type 0) (s : Conten
       → (t : Contents) × after t × WrittenContents old new lba n payload (λ x. x ≡ t) s fua out
   written_found lba n payload true out step = through_found after old new lba n payload s out step
   written_found lba n payload false out step = write_found after old new lba n payload s out step
+
+  start_found : (ejected : Bool) (answer : Answer) (data_in : List ℕ) → MatchBool ejected (IsSettled old new before after answer data_in) (IsAnswered old new before after answer answers.Good data_in [])
+      → FindsBy (λ was is. MatchBool ejected (IsSettled old new was is answer data_in) (IsAnswered old new was is answer answers.Good data_in []))
+  start_found true answer data_in p =
+      let found = sync_found after new s p.out (p.step s stood) in (
+        found.0,
+        found.1,
+        record {
+          out = p.out;
+          cause = p.cause;
+          step = λ x e. subst (λ y. SyncContents new (λ z. z ≡ found.0) y p.out) (sym e) found.2;
+          answer_is = p.answer_is;
+          no_data = p.no_data;
+        },
+      )
+  start_found false answer data_in p = answered_found answer _ data_in _ p
+
+  select_found : (off : Bool) (payload : List ℕ) (answer : Answer) (data_in : List ℕ) → MatchBool off (TurnsOff old new before after answer data_in) (SetsCache old new before after payload answer data_in)
+      → FindsBy (λ was is. MatchBool off (TurnsOff old new was is answer data_in) (SetsCache old new was is payload answer data_in))
+  select_found true payload answer data_in p =
+      let found = sync_found after p.mid s p.out (p.step s stood) in (
+        found.0,
+        found.1,
+        record {
+          mid = p.mid;
+          out = p.out;
+          cause = p.cause;
+          step = λ x e. subst (λ y. SyncContents p.mid (λ z. z ≡ found.0) y p.out) (sym e) found.2;
+          new_is = p.new_is;
+          answer_is = p.answer_is;
+          no_data = p.no_data;
+        },
+      )
+  select_found false payload answer data_in p = (s, p.stands s stood, record { mode = p.mode; stands = λ x e. e; answer_is = p.answer_is; no_data = p.no_data })
 
   done_found : (host : Host) (payload : List ℕ) (command : Command) (answer : Answer) (data_in : List ℕ) → IsDone old new before after host payload command answer data_in
       → FindsBy (λ was is. IsDone old new was is host payload command answer data_in)
@@ -70,7 +105,7 @@ module _ (old new : CacheShown) (before after : Contents → Type 0) (s : Conten
         },
       )
   done_found host payload (commands.Inquiry vital alloc) answer data_in p = answered_found answer _ data_in _ p
-  done_found host payload (commands.StartStop start eject) answer data_in p = answered_found answer _ data_in _ p
+  done_found host payload (commands.StartStop start eject) answer data_in p = start_found (eject && not start) answer data_in p
   done_found host payload (commands.Prevent on) answer data_in p = answered_found answer _ data_in _ p
   done_found host payload (commands.FormatCapacities alloc) answer data_in p = answered_found answer _ data_in _ p
   done_found host payload commands.ReadCapacity answer data_in p = answered_found answer _ data_in _ p
@@ -112,13 +147,13 @@ module _ (old new : CacheShown) (before after : Contents → Type 0) (s : Conten
         },
       )
   done_found host payload commands.Synchronize answer data_in p =
-      let found = sync_found after s p.out (p.step s stood) in (
+      let found = sync_found after new s p.out (p.step s stood) in (
         found.0,
         found.1,
         record {
           out = p.out;
           cause = p.cause;
-          step = λ x e. subst (λ y. SyncContents (λ z. z ≡ found.0) y p.out) (sym e) found.2;
+          step = λ x e. subst (λ y. SyncContents new (λ z. z ≡ found.0) y p.out) (sym e) found.2;
           answer_is = p.answer_is;
           no_data = p.no_data;
         },
@@ -126,8 +161,7 @@ module _ (old new : CacheShown) (before after : Contents → Type 0) (s : Conten
   done_found host payload (commands.Configuration rt start alloc) answer data_in p = answered_found answer _ data_in _ p
   done_found host payload (commands.Events media alloc) answer data_in p = answered_found answer _ data_in _ p
   done_found host payload (commands.DiscInformation alloc) answer data_in p = answered_found answer _ data_in _ p
-  done_found host payload commands.ModeSelect answer data_in p =
-      (s, p.stands s stood, record { mode = p.mode; stands = λ x e. e; answer_is = p.answer_is; no_data = p.no_data })
+  done_found host payload commands.ModeSelect answer data_in p = select_found (old.caches && not (caches_after payload old.caches)) payload answer data_in p
   done_found host payload (commands.ModeSense short control page alloc) answer data_in p = answered_found answer _ data_in _ p
   done_found host payload (commands.Structure format alloc) answer data_in p = structure_found (format == 0x08) alloc answer data_in p
   done_found host payload commands.Streaming answer data_in p = answered_found answer _ data_in _ p

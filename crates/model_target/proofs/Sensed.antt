@@ -26,11 +26,12 @@ use Rattle.model_sense.specs.declared.answer.Answer.TheVariants as answers
 use Rattle.model_cdb.specs.declared.commands.Command.{Command}
 use Rattle.model_cdb.specs.declared.commands.Command.TheVariants as commands
 use Rattle.model_cdb.specs.Decoding.{refusal, unless, meaning, has_refused_field, asks_for_saved_values, has_wrong_length, has_refused_parameters}
+use Rattle.model_modes.specs.ParameterLists.{caches_after}
 use Rattle.model_target.specs.declared.host.Host.{Host}
 use Rattle.model_target.specs.Host.{is_told}
 use Rattle.model_target.specs.Judging.{asked_in, asked_by, asked, ejects, needs_disc, needs_format, hindrances, IsAllowed, IsJudgedBy, IsJudged}
 use Rattle.model_target.specs.Senses.{IsKnownSense}
-use Rattle.model_target.specs.Steps.{read_answer, write_answer, format_answer, expand_answer, sync_answer, WrittenCause, IsAnswered, TellsStructure, TellsSpares, IsDone, IsAnsweredBy, IsStep}
+use Rattle.model_target.specs.Steps.{read_answer, write_answer, format_answer, expand_answer, sync_answer, settle_answer, WrittenCause, IsSettled, TurnsOff, SetsCache, IsAnswered, TellsStructure, TellsSpares, IsDone, IsAnsweredBy, IsStep}
 
 -- This holds of each sense that a command may be checked with: of the one that no spare is left, where a write lacks one.
 pub record HoldsOfSenses (new : Shown) (P : Sense → Type 0) : Type 0 where
@@ -90,6 +91,15 @@ module _ (P : Sense → Type 0) (old new : CacheShown) (all : HoldsOfSenses new.
   sync_check why syncs.Cut is cause = absurd cc
   sync_check why syncs.Off is cause = absurd cc
   sync_check why syncs.Fault is cause = absurd cc
+
+  settle_check : (mid : CacheShown) → mid.drive ≡ new.drive → (why : Sense) (out : SyncOut) → answers.Check why ≡ settle_answer out → SyncCause old mid out → P why
+  settle_check mid same why syncs.Good is cause = absurd cc
+  settle_check mid same why syncs.NotFormatted is cause = absurd cc
+  settle_check mid same why (syncs.NoSpare named) is cause = same_check why _ is (all.no_spare named (subst (λ (d : Shown). LacksOne d named) same (sync_lacks old mid named cause)))
+  settle_check mid same why (syncs.NoUpdate counter) is cause = same_check why _ is all.no_update
+  settle_check mid same why syncs.Cut is cause = absurd cc
+  settle_check mid same why syncs.Off is cause = absurd cc
+  settle_check mid same why syncs.Fault is cause = absurd cc
 
   format_check : (why : Sense) (out : FormatOut) → answers.Check why ≡ format_answer out → P why
   format_check why formats.Good is = absurd cc
@@ -181,13 +191,23 @@ module _ (P : Sense → Type 0) (old new : CacheShown) (all : HoldsOfSenses new.
     not_told true alloc data_in p = not_good data_in _ p.is_answered
     not_told false alloc data_in p = not_good data_in _ p
 
+    start_sensed : (ejected : Bool) (data_in : List ℕ)
+        → MatchBool ejected (IsSettled old new before after (answers.Check why) data_in) (IsAnswered old new before after (answers.Check why) answers.Good data_in []) → P why
+    start_sensed true data_in p = settle_check new refl why p.out p.answer_is p.cause
+    start_sensed false data_in p = not_good data_in _ p
+
+    select_sensed : (off : Bool) (payload data_in : List ℕ)
+        → MatchBool off (TurnsOff old new before after (answers.Check why) data_in) (SetsCache old new before after payload (answers.Check why) data_in) → P why
+    select_sensed true payload data_in p = settle_check p.mid (sym (ap (λ (s : CacheShown). s.drive) p.new_is)) why p.out p.answer_is p.cause
+    select_sensed false payload data_in p = absurd (let e : answers.Check why ≡ answers.Good = p.answer_is in cc)
+
     done_sensed : (host : Host) (payload : List ℕ) (command : Command) (data_in : List ℕ) → IsDone old new before after host payload command (answers.Check why) data_in → P why
     done_sensed host payload commands.TestUnitReady data_in p = not_good data_in _ p
     done_sensed host payload (commands.RequestSense alloc) data_in p = not_good data_in _ p
     done_sensed host payload (commands.Format kind) data_in p = format_check why p.out p.answer_is
     done_sensed host payload (commands.Expand sectors) data_in p = expand_check why p.out p.answer_is
     done_sensed host payload (commands.Inquiry vital alloc) data_in p = not_good data_in _ p
-    done_sensed host payload (commands.StartStop start eject) data_in p = not_good data_in _ p
+    done_sensed host payload (commands.StartStop start eject) data_in p = start_sensed (eject && not start) data_in p
     done_sensed host payload (commands.Prevent on) data_in p = not_good data_in _ p
     done_sensed host payload (commands.FormatCapacities alloc) data_in p = not_good data_in _ p
     done_sensed host payload commands.ReadCapacity data_in p = not_good data_in _ p
@@ -198,7 +218,7 @@ module _ (P : Sense → Type 0) (old new : CacheShown) (all : HoldsOfSenses new.
     done_sensed host payload (commands.Configuration rt start alloc) data_in p = not_good data_in _ p
     done_sensed host payload (commands.Events media alloc) data_in p = not_good data_in _ p
     done_sensed host payload (commands.DiscInformation alloc) data_in p = not_good data_in _ p
-    done_sensed host payload commands.ModeSelect data_in p = absurd (let e : answers.Check why ≡ answers.Good = p.answer_is in cc)
+    done_sensed host payload commands.ModeSelect data_in p = select_sensed (old.caches && not (caches_after payload old.caches)) payload data_in p
     done_sensed host payload (commands.ModeSense short control page alloc) data_in p = not_good data_in _ p
     done_sensed host payload (commands.Structure format alloc) data_in p = not_told (format == 0x08) alloc data_in p
     done_sensed host payload commands.Streaming data_in p = not_good data_in _ p

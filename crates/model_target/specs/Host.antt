@@ -34,6 +34,11 @@ sense_told host = sense_by host.kept host.attention where
   sense_by None true = sense 0x6 0x29 0x00
   sense_by None false = sense 0x0 0x00 0x00
 
+-- the command was done
+abbrev pub is_good : Answer → Bool
+is_good answers.Good = true
+is_good _ = false
+
 -- The sense that is kept after an answer: that of a command that was checked, and none after one that was done. An answer
 -- that turns the power off, or tells that it is, keeps what was.
 abbrev pub kept_after : Option Sense → Answer → Option Sense

@@ -1,5 +1,5 @@
 -- What one command does on a drive with a write cache, and how it is answered: the first reason against it, else its reply. (After INCITS MMC and SPC; the causes are this project's own.)
-use Rattle.std.specs.Prelude.{◌≡◌, ℕ, ◌==◌, ◌⊎◌, Bool, false, is_some, Option, Result, Ok, Err, List, [], take}
+use Rattle.std.specs.Prelude.{◌≡◌, ℕ, ◌==◌, ◌⊎◌, if◌then◌else◌, Bool, false, ◌&&◌, not, is_some, Option, Result, Ok, Err, List, [], take}
 use Rattle.std.specs.Bool.{MatchBool}
 use Rattle.std.specs.Option.{option_map_or}
 use Rattle.model_geometry.specs.Geometry.{formattable}
@@ -35,7 +35,7 @@ use Rattle.model_sense.specs.declared.answer.Answer.TheVariants as answers
 use Rattle.model_cdb.specs.declared.commands.Command.{Command}
 use Rattle.model_cdb.specs.declared.commands.Command.TheVariants as commands
 use Rattle.model_target.specs.declared.host.Host.{Host}
-use Rattle.model_target.specs.Host.{powered_on, done_by, with_kept_sense, attention_after}
+use Rattle.model_target.specs.Host.{powered_on, is_good, done_by, with_kept_sense, attention_after}
 use Rattle.model_target.specs.Judging.{IsJudged}
 use Rattle.model_target.specs.Replies.{sense_reply, inquiry_by, capacity_reply, configuration_reply, events_reply, disc_reply, format_capacities_reply, structure_reply, spares_reply}
 
@@ -90,6 +90,12 @@ sync_answer syncs.Cut = answers.Cut
 sync_answer syncs.Off = answers.Off
 sync_answer syncs.Fault = answers.Fault
 
+-- The same where the disc is synchronised before it is taken out, or before the cache is turned off: of one that is not formatted there
+-- is nothing to write. (This project's own.)
+abbrev pub settle_answer : SyncOut → Answer
+settle_answer syncs.NotFormatted = answers.Good
+settle_answer out = sync_answer out
+
 -- the data of a read: the sectors, where all were read
 abbrev pub data_read : ReadOut → List ℕ → List ℕ
 data_read reads.Good bytes = bytes
@@ -114,11 +120,12 @@ spares_told shown = spares_reply (option_map_or (free_primary_count shown.shape)
     (option_map_or (free_supplementary_count shown.shape) shown.lists 0)
     (option_map_or (λ (lists : Lists). lists.sdl.ssa) shown.lists 0)
 
--- What stands in the four things after a command, by how it was judged and answered.
+-- What stands in the four things after a command, by how it was judged and answered. One that was to be done, and was not, changes none
+-- but the sense that is kept.
 abbrev pub host_after : Host → Option Operation → Result Command Sense → Answer → Host
 host_after host operation (Err why) answer =
     with_kept_sense (record host { attention = attention_after host operation }) answer
-host_after host operation (Ok asked) answer = with_kept_sense (done_by asked host) answer
+host_after host operation (Ok asked) answer = with_kept_sense (if is_good answer then done_by asked host else host) answer
 
 module _ (old new : CacheShown) (lba n : ℕ) (bytes : List ℕ) where
   -- Why a write is answered so: with FUA it goes through the cache, and else into it where that is on and few blocks are covered.
@@ -145,52 +152,62 @@ module _ (old new : CacheShown) (before after : Contents → Type 0) where
     pub answer_is : answer ≡ read_answer out
     pub data_is : data_in ≡ data_read out bytes
 
-  -- a write of these bytes, with or without FUA, was answered so
-  pub record IsWritten (lba n : ℕ) (fua : Bool) (payload : List ℕ) (answer : Answer) (data_in : List ℕ) : Type 0 where
-    pub out : WriteOut
-    pub cause : WrittenCause old new lba n payload fua out
-    pub step : (s : Contents) → before s → WrittenContents old new lba n payload after s fua out
-    pub answer_is : answer ≡ write_answer out
+  -- One call of the disc ended in some way, for this cause; that makes this of what the drive stands for, and is answered so, with no data.
+  pub record Does (Out : Type 0) (because : Out → Type 0) (makes : Contents → Out → Type 0) (answered : Out → Answer)
+      (answer : Answer) (data_in : List ℕ) : Type 0 where
+    pub out : Out
+    pub cause : because out
+    pub step : (s : Contents) → before s → makes s out
+    pub answer_is : answer ≡ answered out
     pub no_data : data_in ≡ []
+
+  -- a write of these bytes, with or without FUA, was answered so
+  abbrev pub IsWritten : (lba n : ℕ) → (fua : Bool) → (payload : List ℕ) → Answer → (data_in : List ℕ) → Type 0
+  IsWritten lba n fua payload = Does WriteOut (WrittenCause old new lba n payload fua)
+      (λ s out. WrittenContents old new lba n payload after s fua out) write_answer
 
   -- a format was answered so
-  pub record IsFormatted (kind : Kind) (answer : Answer) (data_in : List ℕ) : Type 0 where
-    pub out : FormatOut
-    pub cause : CacheFormatCause old new kind out
-    pub step : (s : Contents) → before s → FormatContents old.drive new.drive after s kind out
-    pub answer_is : answer ≡ format_answer out
-    pub no_data : data_in ≡ []
+  abbrev pub IsFormatted : Kind → Answer → (data_in : List ℕ) → Type 0
+  IsFormatted kind = Does FormatOut (CacheFormatCause old new kind)
+      (λ s out. FormatContents old.drive new.drive after s kind out) format_answer
 
   -- an expansion that leaves n sectors was answered so
-  pub record IsExpanded (sectors : ℕ) (answer : Answer) (data_in : List ℕ) : Type 0 where
-    pub out : ExpandOut
-    pub cause : CacheExpandCause old new sectors out
-    pub step : (s : Contents) → before s → ExpandContents after s sectors out
-    pub answer_is : answer ≡ expand_answer out
-    pub no_data : data_in ≡ []
+  abbrev pub IsExpanded : (sectors : ℕ) → Answer → (data_in : List ℕ) → Type 0
+  IsExpanded sectors = Does ExpandOut (CacheExpandCause old new sectors) (λ s out. ExpandContents after s sectors out) expand_answer
 
   -- a verification of n sectors was answered so
-  pub record IsVerified (lba n : ℕ) (answer : Answer) (data_in : List ℕ) : Type 0 where
-    pub out : ReadOut
-    pub cause : CacheVerifyCause old new lba n out
-    pub step : (s : Contents) → before s → VerifyContents after s out
-    pub answer_is : answer ≡ read_answer out
-    pub no_data : data_in ≡ []
+  abbrev pub IsVerified : (lba n : ℕ) → Answer → (data_in : List ℕ) → Type 0
+  IsVerified lba n = Does ReadOut (CacheVerifyCause old new lba n) (λ s out. VerifyContents after s out) read_answer
 
   -- a synchronisation was answered so
-  pub record IsSynchronised (answer : Answer) (data_in : List ℕ) : Type 0 where
+  abbrev pub IsSynchronised : Answer → (data_in : List ℕ) → Type 0
+  IsSynchronised = Does SyncOut (SyncCause old new) (λ s out. SyncContents new after s out) sync_answer
+
+  -- the same before an ejection
+  abbrev pub IsSettled : Answer → (data_in : List ℕ) → Type 0
+  IsSettled = Does SyncOut (SyncCause old new) (λ s out. SyncContents new after s out) settle_answer
+
+  -- The disc was synchronised, and where that is good the cache is turned off.
+  pub record TurnsOff (answer : Answer) (data_in : List ℕ) : Type 0 where
+    pub mid : CacheShown
     pub out : SyncOut
-    pub cause : SyncCause old new out
-    pub step : (s : Contents) → before s → SyncContents after s out
-    pub answer_is : answer ≡ sync_answer out
+    pub cause : SyncCause old mid out
+    pub step : (s : Contents) → before s → SyncContents mid after s out
+    pub new_is : new ≡ (if is_good answer then record mid { caches = false } else mid)
+    pub answer_is : answer ≡ settle_answer out
     pub no_data : data_in ≡ []
 
-  -- A list of mode pages that is taken turns the cache on or off, as its last caching page says. What is pending stays so.
-  pub record IsSelected (payload : List ℕ) (answer : Answer) (data_in : List ℕ) : Type 0 where
+  -- A list of mode pages that is taken turns the cache on or off, as its last caching page says, or leaves it so.
+  pub record SetsCache (payload : List ℕ) (answer : Answer) (data_in : List ℕ) : Type 0 where
     pub mode : new ≡ record old { caches = caches_after payload old.caches }
     pub stands : (s : Contents) → before s → after s
     pub answer_is : answer ≡ answers.Good
     pub no_data : data_in ≡ []
+
+  -- Before the list turns the cache off the disc is synchronised.
+  abbrev pub IsSelected : (payload : List ℕ) → Answer → (data_in : List ℕ) → Type 0
+  IsSelected payload answer data_in =
+      MatchBool (old.caches && not (caches_after payload old.caches)) (TurnsOff answer data_in) (SetsCache payload answer data_in)
 
   -- nothing was done on the disc, and this is the answer, with this reply
   pub record IsAnswered (answer due : Answer) (data_in reply : List ℕ) : Type 0 where
@@ -217,7 +234,8 @@ module _ (old new : CacheShown) (before after : Contents → Type 0) where
   IsDone host payload (commands.Expand sectors) answer data_in = IsExpanded sectors answer data_in
   IsDone host payload (commands.Inquiry vital alloc) answer data_in =
       IsAnswered answer answers.Good data_in (take alloc (inquiry_by vital))
-  IsDone host payload (commands.StartStop start eject) answer data_in = IsAnswered answer answers.Good data_in []
+  IsDone host payload (commands.StartStop start eject) answer data_in =
+      MatchBool (eject && not start) (IsSettled answer data_in) (IsAnswered answer answers.Good data_in [])
   IsDone host payload (commands.Prevent on) answer data_in = IsAnswered answer answers.Good data_in []
   IsDone host payload (commands.FormatCapacities alloc) answer data_in =
       IsAnswered answer answers.Good data_in (take alloc (capacities_told host.out old.drive))

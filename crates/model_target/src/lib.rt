@@ -11,6 +11,8 @@ ghost use Rattle.model_sense.specs.declared.answer.Answer.{Answer as Answered};
 ghost use Rattle.model_sense.specs.declared.answer.Answer.TheVariants as answers;
 ghost use Rattle.model_drive.specs.Shown.{Shown, IsOn};
 ghost use Rattle.model_drive.specs.Writes.{LacksSpare};
+ghost use Rattle.model_drive.specs.Course.{IsUsable};
+ghost use Rattle.model_sectors.specs.Requests.{block_with};
 ghost use Rattle.model_cache.specs.Values.{Contents};
 ghost use Rattle.model_cache.specs.Shown.{CacheShown, CacheStandsFor};
 ghost use Rattle.model_target.specs.Steps.{IsStep, AnswerFaults};
@@ -74,12 +76,13 @@ pub fn a_command_that_is_checked_has_a_known_sense()
 {}
 
 /// A command that is told that no spare is left (3/32/00) made a write that found none for a block, of a disc that showed
-/// something then: one of its own, or one of a pending block.
+/// something then: one of its own, or one of a pending block. And none can be used for that block at its end.
 pub fn a_command_lacks_a_spare_where_a_write_does()
     ensures { (old new : CacheShown) (host later : Host) (cdb payload data_in : List ℕ)
         (named : ℕ) → IsStep old new (CacheStandsFor old) (CacheStandsFor new) host later cdb payload
         (answers.Check (sense_at 0x3 0x32 0x00 named)) data_in
-        → (then : Shown) × (lba : ℕ) × (n : ℕ) × LacksSpare then new.drive lba n named }
+        → ((before then : Shown) × (lba n : ℕ) × LacksSpare before then lba n named)
+        × ((spare : ℕ) → ¬ IsUsable new.drive (block_with named) spare) }
 {}
 
 /// The replies of INQUIRY and of its list of vital product data, of READ CAPACITY with 304 sectors, of READ FORMAT CAPACITIES with 304

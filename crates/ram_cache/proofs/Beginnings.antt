@@ -6,6 +6,7 @@ use Rattle.model_sectors.specs.declared.ReadOut.TheVariants as reads
 use Rattle.model_drive.specs.Shown.{Shown, IsOn, IsFormatted, StandsFor, block_count, cells_in}
 use Rattle.model_drive.specs.Sound.{IsSound}
 use Rattle.model_drive.specs.Reads.{ReadStep}
+use Rattle.model_drive.specs.declared.WriteOut.TheVariants as writes
 use Rattle.model_cache.specs.declared.SyncOut.{SyncOut}
 use Rattle.model_cache.specs.declared.SyncOut.TheVariants as syncs
 use Rattle.model_cache.specs.declared.TickOut.{TickOut}
@@ -14,7 +15,7 @@ use Rattle.model_cache.specs.Values.{Values, Contents, Has, MayHave, IsPending, 
 use Rattle.model_cache.specs.Shown.{CacheShown, dropped}
 use Rattle.model_cache.specs.Steps.{ReadContents, SyncContents, TickContents}
 use Rattle.model_cache.specs.Chains.{ReadsDisc}
-use Rattle.model_cache.specs.Causes.{CacheReadCause, CacheReadBy, CacheOutOfRange, SyncCause, SyncCauseOf, TickCause, TickCauseOf}
+use Rattle.model_cache.specs.Causes.{CacheReadCause, CacheReadBy, CacheOutOfRange, DrainsAll, as_write, SyncCause, TickCause, TickCauseOf}
 use Rattle.model_cache.proofs.Members.{Contains-none}
 use Rattle.model_cache.proofs.SameBlocks.{same_blocks}
 use Rattle.ram_cache.specs.Caches.{cache_of}
@@ -126,14 +127,14 @@ module _ (old : CacheShown) where
       )
       by_list (held ∷ p) e = absurd (let w = e in cc)
 
-  pub sync_entered : (mid new : CacheShown) (out : SyncOut) → mid ≡ dropped old → SyncCauseOf mid new out → SyncCause old new out
-  sync_entered mid new syncs.Good is cause = subst (λ (m : CacheShown). SyncCauseOf m new syncs.Good) is cause
-  sync_entered mid new syncs.NotFormatted is cause = absurd cause
-  sync_entered mid new (syncs.NoSpare lba) is cause = subst (λ (m : CacheShown). SyncCauseOf m new (syncs.NoSpare lba)) is cause
-  sync_entered mid new (syncs.NoUpdate counter) is cause = subst (λ (m : CacheShown). SyncCauseOf m new (syncs.NoUpdate counter)) is cause
-  sync_entered mid new syncs.Cut is cause = subst (λ (m : CacheShown). SyncCauseOf m new syncs.Cut) is cause
-  sync_entered mid new syncs.Off is cause = absurd cause
-  sync_entered mid new syncs.Fault is cause = subst (λ (m : CacheShown). SyncCauseOf m new syncs.Fault) is cause
+  pub sync_entered : (mid new : CacheShown) (out : SyncOut) → mid ≡ dropped old → DrainsAll mid new (as_write out) → SyncCause old new out
+  sync_entered mid new syncs.Good is cause = subst (λ (m : CacheShown). DrainsAll m new writes.Good) is cause
+  sync_entered mid new syncs.NotFormatted is cause = absurd cause.drained
+  sync_entered mid new (syncs.NoSpare lba) is cause = subst (λ (m : CacheShown). DrainsAll m new (writes.NoSpare lba)) is cause
+  sync_entered mid new (syncs.NoUpdate counter) is cause = subst (λ (m : CacheShown). DrainsAll m new (writes.NoUpdate counter)) is cause
+  sync_entered mid new syncs.Cut is cause = subst (λ (m : CacheShown). DrainsAll m new writes.Cut) is cause
+  sync_entered mid new syncs.Off is cause = absurd cause.drained
+  sync_entered mid new syncs.Fault is cause = subst (λ (m : CacheShown). DrainsAll m new writes.Fault) is cause
 
   pub tick_entered : (mid new : CacheShown) (out : TickOut) → mid ≡ dropped old → TickCauseOf mid new out → TickCause old new out
   tick_entered mid new ticks.Idle is cause = subst (λ (m : CacheShown). TickCauseOf m new ticks.Idle) is cause
@@ -164,9 +165,9 @@ module _ (drive : Shown) (before : Standing → Type 0) (shown : (s : Standing) 
     read_off (Has v) lba n into (d, so, under) = off ((shown (On d) so).1)
     read_off (MayHave all) lba n into so = stays (MayHave all) so
 
-    pub sync_off : (s : Contents) → StandsCached before p s → SyncContents after s syncs.Off
-    sync_off (Has v) (d, so, under) = off ((shown (On d) so).1)
-    sync_off (MayHave all) so = stays (MayHave all) so
+    pub sync_off : (new : CacheShown) (s : Contents) → StandsCached before p s → SyncContents new after s syncs.Off
+    sync_off new (Has v) (d, so, under) = off ((shown (On d) so).1)
+    sync_off new (MayHave all) so = stays (MayHave all) so
 
     pub tick_off : (s : Contents) → StandsCached before p s → TickContents after s ticks.Off
     tick_off (Has v) (d, so, under) = off ((shown (On d) so).1)
@@ -177,9 +178,9 @@ module _ (drive : Shown) (before : Standing → Type 0) (shown : (s : Standing) 
     read_bare (Has v) lba n into so = (no_disc not v so, stays (Has v) so)
     read_bare (MayHave all) lba n into (ds, so, taken) = absurd ((shown (Off ds) so).1 on)
 
-    pub sync_bare : (s : Contents) → StandsCached before p s → SyncContents after s syncs.NotFormatted
-    sync_bare (Has v) so = (no_disc not v so, stays (Has v) so)
-    sync_bare (MayHave all) (ds, so, taken) = absurd ((shown (Off ds) so).1 on)
+    pub sync_bare : (new : CacheShown) (s : Contents) → StandsCached before p s → SyncContents new after s syncs.NotFormatted
+    sync_bare new (Has v) so = (no_disc not v so, stays (Has v) so)
+    sync_bare new (MayHave all) (ds, so, taken) = absurd ((shown (Off ds) so).1 on)
 
     pub tick_bare : (s : Contents) → StandsCached before p s → TickContents after s ticks.Idle
     tick_bare (Has v) so = stays (Has v) so

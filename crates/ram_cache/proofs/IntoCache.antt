@@ -1,5 +1,5 @@
 -- A write into the cache: its causes, and what it makes of what the drive stands for.
-use Rattle.std.proofs.Common.{◌≡◌, ◌≢◌, ℕ, ◌+◌, ◌-◌, ◌≤◌, inl, inr, Bool, true, false, not, List, length, take, refl, sym, ap, ◌∙◌, subst, arith, length-drop}
+use Rattle.std.proofs.Common.{◌≡◌, ◌≢◌, ℕ, ◌+◌, ◌-◌, ◌≤◌, inl, inr, Bool, true, false, not, List, length, refl, sym, ap, ◌∙◌, subst, arith}
 use Rattle.std.specs.Prelude.{MatchBool, nat_lt, ◌&&◌, ◌<◌}
 use Rattle.std.proofs.lemmas.Bool.{le-ltb}
 use Rattle.model_cache.specs.declared.TheConstants.{CACHED_AT_ONCE}
@@ -16,14 +16,13 @@ use Rattle.model_drive.specs.Parts.{IsInRange}
 use Rattle.model_cache.specs.Values.{Values, Contents, Has, MayHave, is_among, cached}
 use Rattle.model_cache.specs.Shown.{CacheShown, AreApart, dropped}
 use Rattle.model_cache.specs.Steps.{CachedContents, ThroughContents, ThroughValues, SomePending}
-use Rattle.model_cache.specs.Chains.{FlushesAll, EndsFlushing}
-use Rattle.model_cache.specs.Causes.{CachedCause, CachedCauseOf, LacksRestInCache, ThroughCause, ThroughCauseOf, EndsRest, leaving, leave_first, fresh_blocks}
+use Rattle.model_cache.specs.Drains.{FallsShort, DrainCause}
+use Rattle.model_cache.specs.Causes.{CachedCause, CachedCauseOf, LacksRestInCache, ThroughCause, ThroughCauseOf, EndsRest, MakesRoom, leave_first, fresh_blocks}
 use Rattle.model_cache.proofs.Members.{Contains-passed}
-use Rattle.ram_cache.specs.Flushes.{FlushContents, FlushesDue, due_of}
+use Rattle.ram_cache.specs.Flushes.{FlushContents, LacksSome, DrainsDue, due_of}
 use Rattle.ram_cache.specs.Staging.{TakesIn, EndsComing, StoppedContents, HasRoomForBlocks}
 use Rattle.ram_cache.specs.Calls.{goes_in, WritesOn, WritesBy, WritesContents}
 use Rattle.ram_cache.proofs.Fresh.{fresh_total}
-use Rattle.ram_cache.proofs.Through.{flushes_mode}
 
 -- ---- a rest that could not be read
 
@@ -86,42 +85,44 @@ module _ (old mid : CacheShown) (lba n leave : ℕ) (leave_is : leave ≡ leave_
   count = blocks_covered lba n
 
   -- then there is room
-  pub has_room : AreApart mid.pending → count ≤ 32 → FlushesDue old mid false first count leave writes.Good → HasRoomForBlocks mid.pending lba n
+  pub has_room : AreApart mid.pending → count ≤ 32 → DrainsDue old mid false first count leave writes.Good → HasRoomForBlocks mid.pending lba n
   has_room apart few rule =
       let total = fresh_total mid.pending first count apart in
       let numbers = length-map mid.pending (λ (x : ℕ × List ℕ). x.0) in
-      let left : length (filter (λ i. not (is_among first count i)) (numbers_in mid.pending)) ≡ length (filter (λ i. not (is_among first count i)) (numbers_in old.pending)) - leave =
-      ap length rule.left ∙ length-drop leave (due_of false first count old) in
+      let left : length (filter (λ i. not (is_among first count i)) (numbers_in mid.pending)) + leave ≡ length (filter (λ i. not (is_among first count i)) (numbers_in old.pending)) + 0 = rule.1.left in
       let many : leave ≡ length (filter (λ i. not (is_among first count i)) (numbers_in old.pending)) + count - 32 = leave_is in
       room_of_numbers (length mid.pending) (length (numbers_in mid.pending)) (length (fresh_blocks mid.pending first count)) (length (filter (λ i. not (is_among first count i)) (numbers_in mid.pending)))
       (length (filter (λ i. not (is_among first count i)) (numbers_in old.pending))) count leave numbers total left many few
     where
-      room_of_numbers : (p m f kept was c l : ℕ) → m ≡ p → m + f ≡ kept + c → kept ≡ was - l → l ≡ was + c - 32 → c ≤ 32 → p + f ≤ 32
+      room_of_numbers : (p m f kept was c l : ℕ) → m ≡ p → m + f ≡ kept + c → kept + l ≡ was + 0 → l ≡ was + c - 32 → c ≤ 32 → p + f ≤ 32
       room_of_numbers p m f kept was c l a b d e g = omega arith
 
-  leaving_is : (new : CacheShown) → FlushesAll old (take leave (due_of false first count old)) new → FlushesAll old (leaving old lba n) new
-  leaving_is new all = subst (λ (m : ℕ). FlushesAll old (take m (due_of false first count old)) new) leave_is all
+  makes_room : (new : CacheShown) (out : WriteOut) → DrainCause old new (due_of false first count old) leave out → MakesRoom old new lba n out
+  makes_room new out cause = subst (λ (m : ℕ). DrainCause old new (due_of false first count old) m out) leave_is cause
 
-  ends_leaving : (new : CacheShown) (out : WriteOut) → EndsFlushing old new (take leave (due_of false first count old)) out → EndsFlushing old new (leaving old lba n) out
-  ends_leaving new out ends = subst (λ (m : ℕ). EndsFlushing old new (take m (due_of false first count old)) out) leave_is ends
+  short : (new : CacheShown) (out : WriteOut) → LacksSome old new false first count leave out → FallsShort old new (due_of false first count old) leave out
+  short new out lacks = record { short = lacks.missing; tried = lacks.drained.tried }
 
   module _ (new : CacheShown) (bytes : List ℕ) (range : IsInRange old.drive lba n) where
-    pub refused_cached : (out : WriteOut) → FlushesDue old new false first count leave out → out ≢ writes.Good → CachedCauseOf old new lba n bytes out
+    pub refused_cached : (out : WriteOut) → DrainsDue old new false first count leave out → out ≢ writes.Good → CachedCauseOf old new lba n bytes out
     refused_cached writes.Good rule not_good = absurd (not_good refl)
     refused_cached writes.NotFormatted rule not_good = rule
     refused_cached (writes.Range known) rule not_good = absurd rule
     refused_cached (writes.Unread named block) rule not_good = absurd rule
-    refused_cached (writes.NoSpare named) rule not_good = (range, ends_leaving new (writes.NoSpare named) rule)
-    refused_cached (writes.NoUpdate counter) rule not_good = (range, ends_leaving new (writes.NoUpdate counter) rule)
-    refused_cached writes.Cut rule not_good = (range, inl (ends_leaving new writes.Cut rule))
+    refused_cached (writes.NoSpare named) rule not_good = (range, makes_room new (writes.NoSpare named) (short new (writes.NoSpare named) rule))
+    refused_cached (writes.NoUpdate counter) rule not_good = (range, makes_room new (writes.NoUpdate counter) (short new (writes.NoUpdate counter) rule))
+    refused_cached writes.Cut rule not_good = (range, inl (makes_room new writes.Cut rule))
     refused_cached writes.Off rule not_good = rule
-    refused_cached writes.Fault rule not_good = (range, inl (ends_leaving new writes.Fault rule))
+    refused_cached writes.Fault rule not_good = (range, inl (makes_room new writes.Fault rule))
 
-    module _ (rule : FlushesDue old mid false first count leave writes.Good) where
+    module _ (rule : DrainsDue old mid false first count leave writes.Good) where
+      made : MakesRoom old mid lba n writes.Good
+      made = makes_room mid writes.Good (rule.0, rule.1.tried)
+
       lacks : (out : WriteOut) → EndsComing mid new lba n out → LacksRestInCache old new lba n out
       lacks out ends = record {
         mid = mid;
-        flushed = leaving_is mid rule.flushed;
+        drained = made;
         before = ends.before;
         covered = ends.covered;
         late = ends.late;
@@ -132,14 +133,14 @@ module _ (old mid : CacheShown) (lba n leave : ℕ) (leave_is : leave ≡ leave_
         ends = ends.lacks.ends;
         tells = ends.lacks.tells;
         left = ends.lacks.left;
-        same_mode = ends.lacks.same_mode ∙ ends.same_mode ∙ flushes_mode old (take leave (due_of false first count old)) mid rule.flushed;
+        same_mode = ends.lacks.same_mode ∙ ends.same_mode ∙ rule.1.same_mode;
       }
 
       not_this : (out : WriteOut) → EndsComing mid new lba n out → IsRestOut out
       not_this out ends = is_rest lba (block_with lba + ends.before) ends.lacks.read_out out ends.lacks.tells
 
       pub cached_cause : (out : WriteOut) → TakesIn mid new lba n bytes out → CachedCauseOf old new lba n bytes out
-      cached_cause writes.Good all = record { inside = range; mid = mid; flushed = leaving_is mid rule.flushed; late = all.late; rests = all.rests; comes = all.comes }
+      cached_cause writes.Good all = record { inside = range; mid = mid; drained = made; late = all.late; rests = all.rests; comes = all.comes }
       cached_cause writes.NotFormatted ends = not_this writes.NotFormatted ends
       cached_cause (writes.Range known) ends = absurd (not_this (writes.Range known) ends)
       cached_cause (writes.Unread named home) ends = (range, lacks (writes.Unread named home) ends)

@@ -1,6 +1,6 @@
 -- The write of a pending block to the disc.
-use Rattle.std.proofs.Common.{◌≡◌, ◌≢◌, ℕ, ◌+◌, ◌-◌, ◌*◌, ◌<◌, ◌≤◌, ◌⊎◌, inl, inr, not, ◌==◌, List, [], ◌∷◌, Option, Some, None, length, take, drop, refl, sym, ap, ◌∙◌, subst, arith}
-use Rattle.std.specs.List.{Contains}
+use Rattle.std.proofs.Common.{◌≡◌, ◌≢◌, ℕ, ◌+◌, ◌-◌, ◌*◌, ◌<◌, ◌≤◌, ◌⊎◌, inl, inr, not, ◌==◌, List, [], ◌∷◌, ◌++◌, Option, Some, None, length, take, drop, refl, sym, ap, ◌∙◌, subst, arith}
+use Rattle.std.specs.List.{Contains, remove}
 use Rattle.std.specs.Prelude.{IsSome, IsTrue}
 use Rattle.std.specs.Option.{option_map_or}
 use Rattle.std.proofs.lemmas.Bool.{cases_eq, cases_lt, and_parts, ltb-true, ne_eqb}
@@ -22,7 +22,8 @@ use Rattle.model_cache.specs.Falling.{LiesIn}
 use Rattle.model_cache.specs.Shown.{AreApart, pending_but}
 use Rattle.ram_cache.specs.Rooms.{pending_at}
 use Rattle.ram_cache.specs.Flushes.{FlushContents, left_at}
-use Rattle.ram_cache.proofs.Places.{Contains-held, but_removed}
+use Rattle.ram_cache.proofs.Places.{Contains-held, but_removed, behind_removed}
+use Rattle.model_cache.proofs.Behind.{under_behind}
 use Rattle.model_cache.proofs.Members.{Contains-kept, Contains-passed}
 use Rattle.model_cache.proofs.ReplacedBlocks.{missed_block, as_long_as, as_sectors}
 
@@ -154,8 +155,12 @@ module _ (old new : Shown) (before after : Standing → Type 0) (p : List (ℕ �
   then_at : (m : ℕ) → m < blocks_covered (16 * i) 16 → block_with (16 * i) + (m + 1) ≡ i + 1
   then_at m covered = let none = first_alone i m covered in omega (arith, none)
 
-  stays : (d : List ℕ) (v : Values) (at : ℕ) → at ≡ i → IsUnder p d v → after (On (replaced d (16 * i) b at)) → StandsCached after p (Has v)
-  stays d v at is under step = (d, subst (λ (x : List ℕ). after (On x)) (none_put d at is) step, under)
+  stays : (d : List ℕ) (v : Values) (at : ℕ) → at ≡ i → IsUnder p d v → after (On (replaced d (16 * i) b at)) → StandsCached after (remove p k ++ pending_at p k ∷ []) (Has v)
+  stays d v at is under step = (
+    d,
+    subst (λ (x : List ℕ). after (On x)) (none_put d at is) step,
+    subst (λ (l : List (ℕ × List ℕ)). IsUnder l d v) (behind_removed p k apart there) (under_behind i p d v under),
+  )
 
   stopped : (d : List ℕ) (v : Values) → LiesIn d (16 * i) 16 b → IsUnder p d v → StopsInBlock d (16 * i) 16 b after → StandsCached after [] (MayHave (v ∷ v ∷ []))
   stopped d v lies under step = (
@@ -207,7 +212,7 @@ good_stays before after left out same is s did =
 
 -- ---- what is left
 
-pub left_default : (out : WriteOut) (k : ℕ) (p : List (ℕ × List ℕ)) → out ≢ writes.Good → out ≢ writes.Cut → out ≢ writes.Fault → p ≡ left_at out k p
+pub left_default : (out : WriteOut) (k : ℕ) (p : List (ℕ × List ℕ)) → out ≢ writes.Good → out ≢ writes.Cut → out ≢ writes.Fault → remove p k ++ pending_at p k ∷ [] ≡ left_at out k p
 left_default writes.Good k p a b c = absurd (a refl)
 left_default writes.Cut k p a b c = absurd (b refl)
 left_default writes.Fault k p a b c = absurd (c refl)

@@ -3,13 +3,12 @@ use Rattle.std.proofs.Common.{◌≡◌, ℕ, zero, suc, ◌+◌, ◌-◌, ◌<�
 use Rattle.std.specs.Prelude.{cond, nat_lt}
 use Rattle.std.specs.List.{All, Contains, filter, remove}
 use Rattle.std.proofs.lemmas.Bool.{cond_both, cond-true, cond-false, cases_lt, eqb-true, eq-eqb, ne_eqb, lt-ltb, le-ltb}
-use Rattle.std.proofs.lemmas.List.{ext_get_or, get_or-take, get_or_append_left, length-take-le, take_at}
+use Rattle.std.proofs.lemmas.List.{ext_get_or, get_or-take, get_or_append_left, length-take-le, take_at, take-take, take-append-le}
 use Rattle.std.proofs.lemmas.List.Edits.{length-remove, get_or-remove_below, get_or-remove_above}
-use Rattle.std.proofs.lemmas.List.Elements.{Contains-get_or}
-use Rattle.std.proofs.lemmas.Slice.{put_mid-rotated}
-use borrow.Rule.Slice.PartMut.{put_mid, mid_of}
+use Rattle.std.proofs.lemmas.List.Elements.{Contains-get_or, Contains-append_cases}
 use Rattle.model_buffer.specs.Buffer.{numbers_in}
 use Rattle.model_cache.specs.Shown.{AreApart, pending_but, pending_below}
+use Rattle.model_cache.specs.Drains.{put_behind}
 use Rattle.model_cache.proofs.Members.{Contains-none, Contains-first, Contains-later, Contains-cases}
 use Rattle.ram_cache.specs.Rooms.{pending_at}
 
@@ -97,6 +96,64 @@ but_removed (held ∷ p) (suc k) apart within =
     (ap not (ne_eqb held.0 ((pending_at p k).0) (λ e. apart.0 ((pending_at p k).1) (subst (λ (n : ℕ). Contains p (n, (pending_at p k).1)) (sym e) (Contains-held p k (omega arith))))))
     ∙ ap (λ (l : List (ℕ × List ℕ)). held ∷ l) (but_removed p k (apart.1) (omega arith))
 
+-- a block whose number is in no other is there once
+none_same : (i : ℕ) (rest : List (ℕ × List ℕ)) → ((bytes : List ℕ) → ¬ Contains rest (i, bytes)) → filter (λ (held : ℕ × List ℕ). held.0 == i) rest ≡ []
+none_same i [] none = refl
+none_same i (held ∷ rest) none =
+    cond-false (held.0 == i) (held ∷ filter (λ (h : ℕ × List ℕ). h.0 == i) rest) (filter (λ (h : ℕ × List ℕ). h.0 == i) rest)
+    (ne_eqb held.0 i (λ e. none held.1 (subst (λ (n : ℕ). Contains (held ∷ rest) (n, held.1)) e (Contains-first held rest))))
+    ∙ none_same i rest (λ bytes has. none bytes (Contains-later held rest (i, bytes) has))
+
+only_held : (p : List (ℕ × List ℕ)) (k : ℕ) → AreApart p → k < length p → filter (λ (held : ℕ × List ℕ). held.0 == (pending_at p k).0) p ≡ pending_at p k ∷ []
+only_held [] k apart within = absurd (omega arith)
+only_held (held ∷ p) zero apart within =
+    cond-true (held.0 == held.0) (held ∷ filter (λ (h : ℕ × List ℕ). h.0 == held.0) p) (filter (λ (h : ℕ × List ℕ). h.0 == held.0) p) (eq-eqb held.0 held.0 refl)
+    ∙ ap (λ (l : List (ℕ × List ℕ)). held ∷ l) (none_same held.0 p apart.0)
+only_held (held ∷ p) (suc k) apart within =
+    cond-false (held.0 == (pending_at p k).0) (held ∷ filter (λ (h : ℕ × List ℕ). h.0 == (pending_at p k).0) p) (filter (λ (h : ℕ × List ℕ). h.0 == (pending_at p k).0) p)
+    (ne_eqb held.0 ((pending_at p k).0) (λ e. apart.0 ((pending_at p k).1) (subst (λ (n : ℕ). Contains p (n, (pending_at p k).1)) (sym e) (Contains-held p k (omega arith)))))
+    ∙ only_held p k (apart.1) (omega arith)
+
+-- the blocks with the one at a place behind the others
+pub behind_removed : (p : List (ℕ × List ℕ)) (k : ℕ) → AreApart p → k < length p → put_behind ((pending_at p k).0) p ≡ remove p k ++ pending_at p k ∷ []
+behind_removed p k apart within =
+    ap (λ (l : List (ℕ × List ℕ)). l ++ filter (λ (held : ℕ × List ℕ). held.0 == (pending_at p k).0) p) (but_removed p k apart within)
+    ∙ ap (λ (l : List (ℕ × List ℕ)). remove p k ++ l) (only_held p k apart within)
+
+-- one that stands in no other place stays apart behind them
+apart_end : (p : List (ℕ × List ℕ)) (held : ℕ × List ℕ) → AreApart p → ((bytes : List ℕ) → ¬ Contains p (held.0, bytes)) → AreApart (p ++ held ∷ [])
+apart_end [] held apart none = (λ bytes has. Contains-none (held.0, bytes) has, tt)
+apart_end (x ∷ p) held apart none = (
+  λ bytes has. elim (Contains-append_cases p (held ∷ []) (x.0, bytes) has) [
+    | inl there ↦ apart.0 bytes there
+    | inr last ↦ elim (Contains-cases held [] (x.0, bytes) last) [
+      | inl is ↦ none x.1 (subst (λ (n : ℕ). Contains (x ∷ p) (n, x.1)) (sym (ap (λ (h : ℕ × List ℕ). h.0) is)) (Contains-first x p))
+      | inr nothing ↦ Contains-none (x.0, bytes) nothing
+    ]
+  ],
+  apart_end p held (apart.1) (λ bytes has. none bytes (Contains-later x p (held.0, bytes) has)),
+)
+
+not_removed : (p : List (ℕ × List ℕ)) (k : ℕ) → AreApart p → k < length p → (bytes : List ℕ) → ¬ Contains (remove p k) ((pending_at p k).0, bytes)
+not_removed [] k apart within bytes has = (omega arith)
+not_removed (held ∷ p) zero apart within bytes has = apart.0 bytes has
+not_removed (held ∷ p) (suc k) apart within bytes has = elim (Contains-cases held (remove p k) ((pending_at p k).0, bytes) has) [
+  | inl is ↦ apart.0 ((pending_at p k).1) (subst (λ (n : ℕ). Contains p (n, (pending_at p k).1)) (sym (ap (λ (h : ℕ × List ℕ). h.0) is)) (Contains-held p k (omega arith)))
+  | inr more ↦ not_removed p k (apart.1) (omega arith) bytes more
+]
+
+pub apart_behind : (p : List (ℕ × List ℕ)) (k : ℕ) → AreApart p → k < length p → AreApart (remove p k ++ pending_at p k ∷ [])
+apart_behind p k apart within = apart_end (remove p k) (pending_at p k) (apart-removed p k apart) (not_removed p k apart within)
+
+pub was_behind : (p : List (ℕ × List ℕ)) (k : ℕ) → k < length p → (held : ℕ × List ℕ) → Contains (remove p k ++ pending_at p k ∷ []) held → Contains p held
+was_behind p k within held has = elim (Contains-append_cases (remove p k) (pending_at p k ∷ []) held has) [
+  | inl there ↦ Contains-removed p k held there
+  | inr last ↦ elim (Contains-cases (pending_at p k) [] held last) [
+    | inl is ↦ subst (Contains p) is (Contains-held p k within)
+    | inr nothing ↦ absurd (Contains-none held nothing)
+  ]
+]
+
 -- the numbers that pass a test, of which the first is at this place
 pub first_due : (t : ℕ → Bool) (p : List (ℕ × List ℕ)) (k : ℕ) → k < length p → t ((pending_at p k).0) ≡ true → ((j : ℕ) → j < k → t ((pending_at p j).0) ≡ false)
     → filter t (numbers_in p) ≡ (pending_at p k).0 ∷ filter t (numbers_in (remove p k))
@@ -115,19 +172,30 @@ none_due t (held ∷ p) fails =
 
 -- ---- rooms
 
-module _ {X : Type 0} where
-  -- a room that was put behind the others
-  pub ended : (items rooms rotated : List X) (k len : ℕ) (d : X) → rooms ≡ items → length items ≡ len → k < len
-      → rotated ≡ drop 1 (mid_of k (length rooms - k) rooms) ++ take 1 (mid_of k (length rooms - k) rooms)
-      → take len (put_mid k (length rooms - k) rooms rotated ++ drop (length (put_mid k (length rooms - k) rooms rotated)) items) ≡ remove items k ++ get_or items k d ∷ []
-  ended items rooms rotated k len d same long within turned =
-      let many : length rooms ≡ len = ap length same ∙ long in
-      let whole : put_mid k (length rooms - k) rooms rotated ≡ remove items k ++ get_or items k d ∷ [] =
-      put_mid-rotated k (length rooms - k) rooms rotated d (omega (arith, many)) (omega (arith, many)) turned ∙ ap (λ (l : List X). remove l k ++ get_or l k d ∷ []) same in
-      let short = length-remove items k (omega (arith, long)) in
-      take_at (put_mid k (length rooms - k) rooms rotated) (drop (length (put_mid k (length rooms - k) rooms rotated)) items) len
-      (ap length whole ∙ length-append (remove items k) (get_or items k d ∷ []) ∙ omega (arith, short, long))
-      ∙ whole
+-- all rooms, of which one was put behind the others
+pub rooms_filled : (items rooms now : List (ℕ × List ℕ)) (k count : ℕ) {len : ℕ} → k < length (take count items) → length items ≡ len → rooms ≡ items → now ≡ remove rooms k ++ get_or rooms k (0, []) ∷ []
+    → take len (now ++ drop (length now) items) ≡ remove items k ++ get_or items k (0, []) ∷ []
+rooms_filled items rooms now k count {len} within long same put =
+    let is : now ≡ remove items k ++ get_or items k (0, []) ∷ [] = put ∙ ap (λ (l : List (ℕ × List ℕ)). remove l k ++ get_or l k (0, []) ∷ []) same in
+    let short = length-remove items k (omega (arith, within, length-take count items)) in
+    take_at now (drop (length now) items) len (ap length is ∙ length-append (remove items k) (get_or items k (0, []) ∷ []) ∙ omega (arith, short, long, within, length-take count items)) ∙ is
+
+-- the front of the rooms, of which one was put behind the others of it
+pub front_turned : (items rooms now : List (ℕ × List ℕ)) (k count : ℕ) {len : ℕ} → k < length (take count items) → length items ≡ len → len ≡ 32 → count ≤ 32 → rooms ≡ items
+    → now ≡ (remove (take count rooms) k ++ get_or (take count rooms) k (0, []) ∷ []) ++ drop count rooms
+    → take count (take len (now ++ drop (length now) items)) ≡ remove (take count items) k ++ pending_at (take count items) k ∷ []
+front_turned items rooms now k count {len} within long many few same put =
+    let whole : now ≡ (remove (take count items) k ++ pending_at (take count items) k ∷ []) ++ drop count items =
+    put ∙ ap (λ (l : List (ℕ × List ℕ)). (remove (take count l) k ++ pending_at (take count l) k ∷ []) ++ drop count l) same in
+    let front : length (take count items) ≡ count = length-take-le count items (omega (arith, long, many, few)) in
+    let short = length-remove (take count items) k within in
+    let turned : length (remove (take count items) k ++ pending_at (take count items) k ∷ []) ≡ count =
+    length-append (remove (take count items) k) (pending_at (take count items) k ∷ []) ∙ omega (arith, short, front) in
+    let now_long : length now ≡ count + length (drop count items) = ap length whole ∙ length-append (remove (take count items) k ++ pending_at (take count items) k ∷ []) (drop count items) ∙ omega (arith, turned) in
+    take-take count len (now ++ drop (length now) items) (omega (arith, many, few))
+    ∙ take-append-le count now (drop (length now) items) (omega (arith, now_long))
+    ∙ ap (take count) whole
+    ∙ take_at (remove (take count items) k ++ pending_at (take count items) k ∷ []) (drop count items) count turned
 
 -- the pending blocks without the one at a place, whose room is behind the others
 module _ (items new : List (ℕ × List ℕ)) (k count : ℕ) {len : ℕ} (within : k < length (take count items)) (long : length items ≡ len) (many : len ≡ 32) (few : count ≤ 32)

@@ -1,5 +1,5 @@
 -- A write of the disc while nothing is pending is a write through the cache.
-use Rattle.std.proofs.Common.{◌≡◌, ℕ, ◌*◌, ◌<◌, inr, Bool, true, false, ◌&&◌, List, [], length, refl, sym, ap, ◌∙◌, subst, arith}
+use Rattle.std.proofs.Common.{◌≡◌, ℕ, ◌*◌, ◌<◌, inr, None, Bool, true, false, ◌&&◌, List, [], length, refl, sym, ap, ◌∙◌, subst}
 use Rattle.std.specs.Prelude.{MatchBool}
 use Rattle.std.proofs.lemmas.List.Elements.{All-nil}
 use Rattle.model_sectors.specs.Discs.{Standing, On, Off}
@@ -9,14 +9,13 @@ use Rattle.model_drive.specs.declared.WriteOut.TheVariants as writes
 use Rattle.model_drive.specs.Shown.{Shown, StandsFor, block_count}
 use Rattle.model_drive.specs.Parts.{IsInRange}
 use Rattle.model_drive.specs.Writes.{WriteCause, WriteStep}
-use Rattle.model_cache.specs.declared.TheConstants.{CACHED_BLOCKS}
 use Rattle.model_cache.specs.Values.{Contents, Has, MayHave, StandsCached}
 use Rattle.model_cache.specs.Shown.{CacheShown}
 use Rattle.model_cache.specs.Chains.{LeavesSound, leaves_pending}
 use Rattle.model_cache.specs.Steps.{ThroughContents}
 use Rattle.model_cache.specs.Causes.{ThroughCause, WritesThrough}
 use Rattle.ram_cache.specs.Caches.{cache_of}
-use Rattle.ram_cache.specs.Flushes.{CanFlush, FlushContents, FlushesDue}
+use Rattle.ram_cache.specs.Flushes.{CanFlush, FlushContents, DrainsDue}
 use Rattle.ram_cache.proofs.Beginnings.{plain_disc}
 use Rattle.ram_cache.proofs.Through.{written_contents}
 
@@ -28,7 +27,7 @@ module _ (old new : Shown) (caches : Bool) (lba n : ℕ) where
   now = cache_of new [] caches
 
   direct : LeavesSound old new → (out : WriteOut) → WriteCause old new lba n out → WritesThrough start now lba n out
-  direct leaves out wrote = record { mid = start; flushed = refl; wrote = wrote; leaves = leaves; left = none_left out; same_mode = refl }
+  direct leaves out wrote = record { mid = start; drained = (None, (refl, refl, refl)); wrote = wrote; leaves = leaves; left = none_left out; same_mode = refl }
     where
       none_left : (out : WriteOut) → now.pending ≡ leaves_pending out start.pending
       none_left writes.Good = refl
@@ -56,8 +55,8 @@ module _ (old new : Shown) (caches : Bool) (lba n : ℕ) where
     can : IsInRange old lba n → CanFlush start
     can range = record { on = range.on; formatted = range.formatted; inside = All-nil (λ (x : ℕ × List ℕ). x.0 < block_count old) }
 
-    rule : IsInRange old lba n → FlushesDue start start true (block_with lba) (blocks_covered lba n) CACHED_BLOCKS writes.Good
-    rule range = record { flushed = refl; left = refl; can = can range; same_count = refl }
+    rule : IsInRange old lba n → DrainsDue start start true (block_with lba) (blocks_covered lba n) 0 writes.Good
+    rule range = (None, record { tried = (refl, refl, refl); left = refl; can = can range; same_count = refl; same_mode = refl })
 
     shows : IsInRange old lba n → (s : Contents) → StandsCached before [] s → FlushContents (StandsCached before []) s writes.Good
     shows range (Has v) so = so
@@ -66,7 +65,7 @@ module _ (old new : Shown) (caches : Bool) (lba n : ℕ) where
     in_range : IsInRange old lba n → (s : Contents) (out : WriteOut) → WriteCause old new lba n out → ((t : Standing) → before t → WriteStep new after t lba n bytes out)
         → now.pending ≡ leaves_pending out start.pending → StandsCached before [] s → ThroughContents start now (StandsCached after []) s lba n bytes out
     in_range range s out wrote step left so =
-        written_contents lba n start start now (omega arith) range (rule range) before after shown bytes whole (StandsCached before []) s out wrote left step (shows range s so)
+        written_contents lba n start start now 0 refl range (rule range) before after shown bytes whole (StandsCached before []) s out wrote left step (shows range s so)
 
     plainly : (s : Contents) (out : WriteOut) → WriteCause old new lba n out → ((t : Standing) → before t → WriteStep new after t lba n bytes out) → StandsCached before [] s
         → ThroughContents start now (StandsCached after []) s lba n bytes out

@@ -1,17 +1,20 @@
 -- The write of pending blocks to the disc, step by step: for the code of a drive with a write cache. (This project's own.)
-use Rattle.std.specs.Prelude.{◌≡◌, ℕ, ◌*◌, ◌<◌, ◌≤◌, Bool, true, false, not, List, [], ◌∷◌, ◌++◌, length, take, drop}
-use Rattle.std.specs.List.{All, remove, filter}
+use Rattle.std.specs.Prelude.{◌≡◌, ℕ, zero, suc, ◌+◌, ◌*◌, ◌<◌, ◌≤◌, Bool, Option, Some, None, List, [], ◌∷◌, ◌++◌, length}
+use Rattle.std.specs.List.{All, remove}
 use Rattle.model_sectors.specs.declared.TheConstants.{MOST_SECTORS}
 use Rattle.model_drive.specs.declared.WriteOut.{WriteOut}
 use Rattle.model_drive.specs.declared.WriteOut.TheVariants as writes
 use Rattle.model_drive.specs.Shown.{IsOn, IsFormatted, block_count, capacity}
 use Rattle.model_drive.specs.Writes.{WriteCause}
+use Rattle.model_cache.specs.declared.SyncOut.{SyncOut}
+use Rattle.model_cache.specs.declared.SyncOut.TheVariants as syncs
 use Rattle.model_cache.specs.declared.TickOut.{TickOut}
 use Rattle.model_cache.specs.declared.TickOut.TheVariants as ticks
-use Rattle.model_cache.specs.Values.{Contents, Has, MayHave, is_among}
-use Rattle.model_cache.specs.Shown.{CacheShown, pending_in, dropped}
-use Rattle.model_cache.specs.Chains.{LeavesSound, FlushesAll, EndsFlushing}
-use Rattle.ram_cache.specs.Rooms.{pending_at}
+use Rattle.model_cache.specs.Values.{Contents, Has, MayHave}
+use Rattle.model_cache.specs.Shown.{CacheShown, dropped}
+use Rattle.model_cache.specs.Chains.{LeavesSound}
+use Rattle.model_cache.specs.Drains.{Tries, StopsTrying}
+use Rattle.ram_cache.specs.Rooms.{pending_at, due_in}
 use Rattle.ram_cache.specs.declared.flushing.Entered.{Entered}
 use Rattle.ram_cache.specs.declared.flushing.Entered.TheVariants as entered
 
@@ -33,12 +36,12 @@ EnterRule old new entered.Off = ¬ IsOn old.drive × (new ≡ old)
 EnterRule old new entered.NotFormatted = IsOn old.drive × ¬ IsFormatted old.drive × (new ≡ dropped old) × (new.pending ≡ [])
 EnterRule old new (entered.Formatted sectors) = IsReady new sectors × (new ≡ dropped old)
 
--- what is pending after the write of the block at this place
+-- what is pending after the write of the block at this place: a refused one stands behind the others
 abbrev pub left_at : WriteOut → ℕ → List (ℕ × List ℕ) → List (ℕ × List ℕ)
 left_at writes.Good k pending = remove pending k
 left_at writes.Cut k pending = []
 left_at writes.Fault k pending = []
-left_at _ k pending = pending
+left_at _ k pending = remove pending k ++ pending_at pending k ∷ []
 
 -- The pending block at this place was written to the disc, and it went so.
 abbrev pub FlushesAt : CacheShown → CacheShown → ℕ → WriteOut → Type 0
@@ -57,38 +60,69 @@ FlushContents after (MayHave all) _ = ⊥
 
 -- the numbers of the pending blocks that are among n from this one on, or of those that are not
 abbrev pub due_of : (among : Bool) → (first count : ℕ) → CacheShown → List ℕ
-due_of true first count shown = filter (is_among first count) (pending_in shown)
-due_of false first count shown = filter (λ i. not (is_among first count i)) (pending_in shown)
+due_of among first count shown = due_in among first count shown.pending
 
--- The first n of the pending blocks that are due were written, the others are due still, and the disc has all that are
--- pending.
-pub record FlushedDue (old new : CacheShown) (among : Bool) (first count most : ℕ) : Type 0 where
-  pub flushed : FlushesAll old (take most (due_of among first count old)) new
-  pub left : due_of among first count new ≡ drop most (due_of among first count old)
+-- The pending blocks that are due were tried in turn until enough had left, or all were tried, and so many are missing; those of them that
+-- are pending now are as many as did not leave.
+pub record DrainedDue (old new : CacheShown) (among : Bool) (first count enough missing : ℕ) (told : Option WriteOut) : Type 0 where
+  pub tried : Tries old (due_of among first count old) enough new missing told
+  pub left : length (due_of among first count new) + enough ≡ length (due_of among first count old) + missing
   pub can : CanFlush new
   pub same_count : block_count new.drive ≡ block_count old.drive
+  pub same_mode : new.caches ≡ old.caches
 
--- What became of the pending blocks that are due, of which n at most are written.
-abbrev pub FlushesDue : CacheShown → CacheShown → (among : Bool) → (first count most : ℕ) → WriteOut → Type 0
-FlushesDue old new among first count most writes.Good = FlushedDue old new among first count most
-FlushesDue old new among first count most (writes.NoSpare named) =
-    EndsFlushing old new (take most (due_of among first count old)) (writes.NoSpare named)
-FlushesDue old new among first count most (writes.NoUpdate counter) =
-    EndsFlushing old new (take most (due_of among first count old)) (writes.NoUpdate counter)
-FlushesDue old new among first count most writes.Cut = EndsFlushing old new (take most (due_of among first count old)) writes.Cut
-FlushesDue old new among first count most writes.Fault = EndsFlushing old new (take most (due_of among first count old)) writes.Fault
-FlushesDue old new among first count most _ = ⊥
+-- some are missing
+pub record LacksSome (old new : CacheShown) (among : Bool) (first count enough : ℕ) (out : WriteOut) : Type 0 where
+  pub missing : ℕ
+  pub drained : DrainedDue old new among first count enough (suc missing) (Some out)
 
--- `turns` turns wrote as many of the blocks that are due, and no sector that is shown changed
-pub record FlushedSoFar (start now : CacheShown) (among : Bool) (first count turns : ℕ) (before after : Contents → Type 0) : Type 0 where
+-- What became of the pending blocks that are due, of which so many are to leave.
+abbrev pub DrainsDue : CacheShown → CacheShown → (among : Bool) → (first count enough : ℕ) → WriteOut → Type 0
+DrainsDue old new among first count enough writes.Good = (told : Option WriteOut) × DrainedDue old new among first count enough 0 told
+DrainsDue old new among first count enough (writes.NoSpare named) = LacksSome old new among first count enough (writes.NoSpare named)
+DrainsDue old new among first count enough (writes.NoUpdate counter) = LacksSome old new among first count enough (writes.NoUpdate counter)
+DrainsDue old new among first count enough writes.Cut = StopsTrying old new (due_of among first count old) enough writes.Cut
+DrainsDue old new among first count enough writes.Fault = StopsTrying old new (due_of among first count old) enough writes.Fault
+DrainsDue old new among first count enough _ = ⊥
+
+-- the first of the refusals that were met
+abbrev pub first_told : Option WriteOut → WriteOut → WriteOut
+first_told None out = out
+first_told (Some told) out = told
+
+-- how a drain ends after which so many are missing
+abbrev pub drain_out : (missing : ℕ) → Option WriteOut → WriteOut
+drain_out zero told = writes.Good
+drain_out (suc missing) None = writes.Good
+drain_out (suc missing) (Some told) = told
+
+-- `turns` turns tried as many of the blocks that are due, of which those that were refused stand behind the others, and no sector that is
+-- shown changed
+pub record DrainedSoFar (start now : CacheShown) (among : Bool) (first count turns enough missing : ℕ) (told : Option WriteOut)
+    (before after : Contents → Type 0) : Type 0 where
   pub done : List ℕ
+  pub rest : List ℕ
+  pub behind : List ℕ
   pub many : length done ≡ turns
-  pub due_is : due_of among first count start ≡ done ++ due_of among first count now
-  pub flushed : FlushesAll start done now
+  pub due_is : due_of among first count start ≡ done ++ rest
+  pub now_due : due_of among first count now ≡ rest ++ behind
+  pub counted : length behind + enough ≡ turns + missing
+  pub tried : Tries start done enough now missing told
   pub can : CanFlush now
   pub same_shape : now.drive.shape ≡ start.drive.shape
   pub same_count : block_count now.drive ≡ block_count start.drive
+  pub same_mode : now.caches ≡ start.caches
   pub stands : (s : Contents) → before s → after s
+
+-- what a drain is told as
+abbrev pub sync_out : WriteOut → SyncOut
+sync_out writes.Good = syncs.Good
+sync_out writes.NotFormatted = syncs.NotFormatted
+sync_out (writes.NoSpare lba) = syncs.NoSpare lba
+sync_out (writes.NoUpdate counter) = syncs.NoUpdate counter
+sync_out writes.Cut = syncs.Cut
+sync_out writes.Fault = syncs.Fault
+sync_out _ = syncs.Off
 
 -- how the end of the write of the oldest pending block is told of a tick
 abbrev pub tick_out : WriteOut → ℕ → TickOut

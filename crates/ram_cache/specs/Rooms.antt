@@ -1,5 +1,7 @@
 -- The pending blocks as a list, and what is at its places. (This project's own.)
-use Rattle.std.specs.Prelude.{◌≡◌, ◌<◌, ℕ, Bool, true, false, Option, Some, None, List, [], length, take, drop, ◌+◌, slice_index_or, if◌then◌else◌}
+use Rattle.std.specs.Prelude.{◌≡◌, ◌<◌, ℕ, Bool, true, false, Option, Some, None, List, [], length, take, drop, ◌+◌, slice_index_or, not, if◌then◌else◌}
+use Rattle.std.specs.List.{filter}
+use Rattle.model_buffer.specs.Buffer.{numbers_in}
 use Rattle.model_cache.specs.Values.{is_among}
 use Rattle.ram_cache.specs.declared.pending.PendingBlocks.{PendingBlocks}
 
@@ -18,6 +20,11 @@ room_of pending staged = (slice_index_or pending.rooms.items (pending.count + st
 -- the one at this place
 abbrev pub pending_at : List (ℕ × List ℕ) → ℕ → ℕ × List ℕ
 pending_at pending k = slice_index_or pending k (0, [])
+
+-- the numbers of those that are among n from this one on, or of those that are not
+abbrev pub due_in : (among : Bool) → (first count : ℕ) → List (ℕ × List ℕ) → List ℕ
+due_in true first count pending = filter (is_among first count) (numbers_in pending)
+due_in false first count pending = filter (λ i. not (is_among first count i)) (numbers_in pending)
 
 -- The first one of which it is so that its number is one of n from this one on, or of which it is not so.
 abbrev pub FirstOf : List (ℕ × List ℕ) → (among : Bool) → (first count : ℕ) → Option ℕ → Type 0

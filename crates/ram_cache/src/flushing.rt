@@ -1,15 +1,15 @@
-//! Pending blocks are written to the disc: one, or those of a request, or all others.
+//! Pending blocks are written to the disc: one, or those of a request, or all others. One that is refused goes behind the others, and
+//! those behind it are tried all the same.
 
-ghost use Rattle.std.specs.Prelude.{◌≡◌, ◌≤◌, ◌<◌, ◌*◌, ℕ, Bool, false, length};
+ghost use Rattle.std.specs.Prelude.{◌≡◌, ◌≤◌, ◌<◌, ◌*◌, ℕ, Some, length};
 ghost use Rattle.model_drive.specs.Shown.{capacity};
 ghost use Rattle.model_cache.specs.Values.{Contents};
 ghost use Rattle.model_cache.specs.Steps.{SyncContents, TickContents};
-ghost use Rattle.model_cache.specs.Causes.{SyncCauseOf, TickCauseOf, sync_out, leaves_after_read};
+ghost use Rattle.model_cache.specs.Causes.{DrainsAll, TickCauseOf, as_write, leaves_after_read};
 ghost use Rattle.model_cache.specs.Chains.{leaves_pending};
-ghost use Rattle.ram_cache.specs.Flushes.{tick_out};
+ghost use Rattle.ram_cache.specs.Flushes.{tick_out, sync_out, first_told, drain_out};
 
 use crate::cached::Cached;
-use model_cache::CACHED_BLOCKS;
 use ram_sectors::{Disc, ReadOut, SyncOut, TickOut, WriteOut};
 
 /// What a call finds of the disc as it begins.
@@ -23,7 +23,30 @@ pub enum Entered {
     Formatted(u32),
 }
 
-/// How the end of a write of pending blocks is told of a synchronisation.
+/// The first of the refusals that a drain met, where it met this one too.
+fn first_told(told: Option<WriteOut>, out: WriteOut) -> Option<WriteOut>
+    ensures { result ≡ Some (first_told told out) }
+{
+    match told {
+        None => Some(out),
+        Some(first) => Some(first),
+    }
+}
+
+/// How a drain ends after which so many blocks are missing, by the first refusal that it met.
+fn drain_out(missing: usize, told: Option<WriteOut>) -> WriteOut
+    ensures { result ≡ drain_out missing told }
+{
+    if missing == 0 {
+        return WriteOut::Good;
+    }
+    match told {
+        None => WriteOut::Good,
+        Some(first) => first,
+    }
+}
+
+/// How the end of a drain is told of a synchronisation.
 fn told_of_sync(out: WriteOut) -> SyncOut
     ensures { result ≡ sync_out out }
 {
@@ -56,7 +79,7 @@ fn told_of_tick(out: WriteOut, lba: u32) -> TickOut
 impl<D: Disc> Cached<D> {
     ghost use Rattle.ram_cache.specs.Caches.{shown_by, stands_by};
     ghost use Rattle.ram_cache.specs.Rooms.{pending_of};
-    ghost use Rattle.ram_cache.specs.Flushes.{CanFlush, IsReady, EnterRule, FlushesAt, FlushContents, FlushesDue};
+    ghost use Rattle.ram_cache.specs.Flushes.{CanFlush, IsReady, EnterRule, FlushesAt, FlushContents, DrainsDue, due_of};
 
     /// How a call begins: with the power on the pending blocks that the disc no longer has are dropped.
     ///
@@ -112,7 +135,8 @@ impl<D: Disc> Cached<D> {
     /// # Clauses
     ///
     /// - `rule` (`FlushesAt`), `step` (`FlushContents`): the pending block at a place is written to the disc, and is gone where
-    ///   that was good; what is shown stays, and a stopped flush leaves two candidates of the same values.
+    ///   that was good, or behind the others where it was refused; what is shown stays, and a stopped flush leaves two candidates of
+    ///   the same values.
     fn flush(&mut self, k: usize, sectors: u32) -> WriteOut
         requires there { k < length (pending_of self.old.pending) }
         requires can { CanFlush (shown_by D.Sectors self.old) }
@@ -133,63 +157,71 @@ impl<D: Disc> Cached<D> {
                 self.pending.exchange_room(&mut self.disc);
             }
             WriteOut::Cut | WriteOut::Fault => self.pending.drop_all(),
-            _ => {}
+            _ => self.pending.put_behind(k),
         }
         out
     }
 
-    /// Writes pending blocks to the disc, the oldest first, up to the first that is refused, and n at most: those that are
-    /// among `count` blocks from block `first` on, or those that are not.
+    /// Tries pending blocks, each once, in the order in which they are pending, until enough have left: those that are among `count`
+    /// blocks from block `first` on, or those that are not.
     ///
     /// # Clauses
     ///
-    /// - `rule` (`FlushesDue`), `step`: the pending blocks that are among some numbers, or not among them, are flushed in the
-    ///   order in which they are pending, up to a given number of them and up to the first that is refused or stopped. It serves
-    ///   `synchronize`, writes through the cache, and writes for which room is needed.
-    pub(crate) fn flush_due(
+    /// - `rule` (`DrainsDue`), `step`: the pending blocks that are among some numbers, or not among them, are tried in the order in
+    ///   which they are pending, up to the one by which enough have left, or that is stopped. It serves `synchronize`, writes
+    ///   through the cache, and writes for which room is needed.
+    pub(crate) fn drain(
         &mut self,
         among: bool,
         first: u32,
         count: u32,
-        most: usize,
+        enough: usize,
         sectors: u32,
     ) -> WriteOut
         requires can { CanFlush (shown_by D.Sectors self.old) }
         requires sectors { sectors ≡ capacity (D.shows self.old.disc) }
-        ensures rule { FlushesDue (shown_by D.Sectors self.old) (shown_by D.Sectors self.new) among first count
-            most result }
+        requires enough { enough ≤ length (due_of among first count (shown_by D.Sectors self.old)) }
+        ensures rule { DrainsDue (shown_by D.Sectors self.old) (shown_by D.Sectors self.new) among first count
+            enough result }
         ensures step { (s : Contents) → stands_by D.Sectors self.old s
             → FlushContents (stands_by D.Sectors self.new) s result }
         ensures same_shape { (D.shows self.new.disc).shape ≡ (D.shows self.old.disc).shape }
         ensures underwent { D.underwent self.old.disc self.new.disc }
     {
-        for _turn in 0..most {
-            let Some(k) = self.pending.first_of(among, first, count) else {
+        let mut missing = enough;
+        let mut told = None;
+        for _turn in 0..self.pending.count_of(among, first, count) {
+            if missing == 0 {
                 return WriteOut::Good;
+            }
+            let Some(k) = self.pending.first_of(among, first, count) else {
+                unreachable!();
             };
             match self.flush(k, sectors) {
-                WriteOut::Good => {}
-                refused => return refused,
+                WriteOut::Good => missing -= 1,
+                WriteOut::Cut => return WriteOut::Cut,
+                WriteOut::Fault => return WriteOut::Fault,
+                refused => told = first_told(told, refused),
             }
         }
-        WriteOut::Good
+        drain_out(missing, told)
     }
 
-    /// Writes all pending blocks to the disc, which has n sectors and all of them: the oldest first, up to the first that is
-    /// refused.
+    /// Tries all pending blocks of the disc, which has n sectors and all of them.
     pub(crate) fn synchronize_on(&mut self, sectors: u32) -> SyncOut
         requires ready { IsReady (shown_by D.Sectors self.old) sectors }
-        ensures cause { SyncCauseOf (shown_by D.Sectors self.old) (shown_by D.Sectors self.new) result }
+        ensures cause { DrainsAll (shown_by D.Sectors self.old) (shown_by D.Sectors self.new) (as_write result) }
         ensures step { (s : Contents) → stands_by D.Sectors self.old s
-            → SyncContents (stands_by D.Sectors self.new) s result }
+            → SyncContents (shown_by D.Sectors self.new) (stands_by D.Sectors self.new) s result }
         ensures same_shape { (D.shows self.new.disc).shape ≡ (D.shows self.old.disc).shape }
         ensures underwent { D.underwent self.old.disc self.new.disc }
     {
-        let out = self.flush_due(false, 0, 0, CACHED_BLOCKS as usize, sectors);
+        let all = self.pending.len();
+        let out = self.drain(false, 0, 0, all, sectors);
         told_of_sync(out)
     }
 
-    /// Writes the oldest pending block to the disc, which has n sectors and all pending blocks.
+    /// Tries the oldest pending block of the disc, which has n sectors and all pending blocks.
     pub(crate) fn tick_on(&mut self, sectors: u32) -> TickOut
         requires ready { IsReady (shown_by D.Sectors self.old) sectors }
         ensures cause { TickCauseOf (shown_by D.Sectors self.old) (shown_by D.Sectors self.new) result }

@@ -9,9 +9,9 @@
 //! stands for (`Contents`), and the cause and the step of each answer. A cause is a chain of calls of the disc below, each by its
 //! cause in `model_drive`.
 //!
-//! - One loop flushes: the pending blocks that are among some numbers, or not among them, oldest first. Its invariant is that the
-//!   first k of those that were due at its start are flushed, that the others are due still, and that no sector that is shown has
-//!   changed.
+//! - One loop drains: the pending blocks that are among some numbers, or not among them, oldest first. Its invariant is that the
+//!   first k of those that were due at its start were tried, that the others are due still, in front of those that were refused, and
+//!   that no sector that is shown has changed.
 //! - A write into the cache makes its blocks beside the pending ones. They become pending all at once, after everything that may
 //!   be refused.
 //! - Each step of a flush is one lemma over the predicate 'this disc, with these blocks over it, goes with these contents'
@@ -49,9 +49,8 @@
 //! While the cache is off and empty, `read`, `write` and `write_through` are the disc's calls and nothing else.
 //!
 //! `must-fail/` has four wrong changes that the prover refuses: a flush that is refused and forgets its block, a drive that is
-//! made over used rooms and has a block of the drive before pending, a synchronisation that is good with one of 32 blocks pending
-//! still, and a write through the cache that leaves a block pending which it covers, whose old bytes would come over the new ones
-//! later.
+//! made over used rooms and has a block of the drive before pending, a synchronisation that is good though a block was refused, and a
+//! write through the cache that leaves a block pending which it covers, whose old bytes would come over the new ones later.
 //!
 //! - **Only tested:** that calls end well where nothing is in the way, and how many uses they take: by `tests/steps/cache.steps`,
 //!   scripts on the built program: also cut at each use of a synchronisation, a tick and a write, and refused at each flush; and

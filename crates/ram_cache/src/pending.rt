@@ -1,6 +1,6 @@
 //! The pending blocks of a write cache, in the order in which they became pending, and the rooms of those to come.
 
-ghost use Rattle.std.specs.Prelude.{◌≡◌, ℕ, ◌+◌, ◌≤◌, ◌<◌, List, [], ◌∷◌, ◌++◌, take, length, slice_index_or, vec_len, map, not, ◌*◌, ◌^◌, slice_set};
+ghost use Rattle.std.specs.Prelude.{◌≡◌, ℕ, ◌+◌, ◌≤◌, ◌<◌, List, [], ◌∷◌, ◌++◌, take, drop, length, slice_index_or, vec_len, map, not, ◌*◌, ◌^◌, slice_set};
 ghost use Rattle.std.specs.List.{Contains, filter, remove};
 ghost use Rattle.std.proofs.Props.{props};
 ghost use Rattle.model_cache.specs.Shown.{AreApart};
@@ -42,7 +42,7 @@ impl PendingBlocks {
     ghost use Rattle.std.specs.Prelude.{IfOk, IsTrue, ◌↔◌};
     ghost use Rattle.model_cache.specs.Shown.{pending_below};
     ghost use Rattle.ram_cache.specs.declared.pending.TheConstants.{PENDING_MEMORY};
-    ghost use Rattle.ram_cache.specs.Rooms.{pending_of, staged_of, room_of, pending_at, FirstOf};
+    ghost use Rattle.ram_cache.specs.Rooms.{pending_of, staged_of, room_of, pending_at, due_in, FirstOf};
 
     /// No pending blocks, and the rooms of as many as there may be.
     ///
@@ -121,17 +121,17 @@ impl PendingBlocks {
         None
     }
 
-    /// How many are none of `count` logical blocks from block `first` on.
-    pub fn count_others(&self, first: u32, count: u32) -> usize
-        ensures { result ≡ length (filter (λ i. not (is_among first count i)) (numbers_in (pending_of self.now))) }
+    /// How many are some of `count` logical blocks from block `first` on, or how many are none of them.
+    pub fn count_of(&self, among: bool, first: u32, count: u32) -> usize
+        ensures { result ≡ length (due_in among first count (pending_of self.now)) }
     {
-        let mut others = 0;
+        let mut some = 0;
         for k in 0..self.len() {
-            if !is_among(self.number(k), first, count) {
-                others += 1;
+            if is_among(self.number(k), first, count) == among {
+                some += 1;
             }
         }
-        others
+        some
     }
 
     /// Drops the one at this place. Its room stays.
@@ -139,8 +139,16 @@ impl PendingBlocks {
         requires { k < length (pending_of self.old) }
         ensures { pending_of self.new ≡ remove (pending_of self.old) k }
     {
-        to_end(&mut self.rooms, k);
+        to_end(self.rooms.as_mut_slice(), k);
         self.count -= 1;
+    }
+
+    /// Puts the one at this place behind the others.
+    pub fn put_behind(&mut self, k: usize)
+        requires { k < length (pending_of self.old) }
+        ensures { pending_of self.new ≡ remove (pending_of self.old) k ++ pending_at (pending_of self.old) k ∷ [] }
+    {
+        to_end_of(self.rooms.as_mut_slice(), self.count, k);
     }
 
     /// Exchanges the room that is furthest behind, where a block that is dropped leaves its bytes, for one of the disc's.
@@ -276,13 +284,21 @@ fn read_whole<D: Disc>(disc: &mut D, i: u32, room: &mut Block) -> ReadOut
 }
 
 /// Puts the room at this place behind the others.
-fn to_end(rooms: &mut Vec<(u32, Block)>, k: usize)
-    requires { k < vec_len rooms.old }
-    ensures items { rooms.new.items ≡ remove rooms.old.items k ++ slice_index_or rooms.old.items k (0, []) ∷ [] }
-    ensures len { vec_len rooms.new ≡ vec_len rooms.old }
+fn to_end(rooms: &mut [(u32, Block)], k: usize)
+    requires { k < length rooms.old }
+    ensures { rooms.new ≡ remove rooms.old k ++ slice_index_or rooms.old k (0, []) ∷ [] }
 {
-    let rooms = rooms.as_mut_slice();
     rooms[k..].rotate_left(1);
+}
+
+/// Puts the room at this place behind the others of the first n.
+fn to_end_of(rooms: &mut [(u32, Block)], count: usize, k: usize)
+    requires there { k < count }
+    requires long { count ≤ length rooms.old }
+    ensures { rooms.new ≡ (remove (take count rooms.old) k ++ slice_index_or (take count rooms.old) k (0, []) ∷ [])
+        ++ drop count rooms.old }
+{
+    to_end(&mut rooms[..count], k);
 }
 
 /// Whether a number is one of `count` from `first` on.

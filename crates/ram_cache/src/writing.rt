@@ -44,7 +44,7 @@ impl<D: Disc> Cached<D> {
     }
 
     /// Writes a request through the cache, to a disc that has n sectors: the covered blocks that are pending go to the disc
-    /// first.
+    /// first, all of them, or the request is not written.
     ///
     /// # Clauses
     ///
@@ -63,13 +63,10 @@ impl<D: Disc> Cached<D> {
         ensures same_shape { (D.shows self.new.disc).shape ≡ (D.shows self.old.disc).shape }
         ensures underwent { D.underwent self.old.disc self.new.disc }
     {
-        match self.flush_due(
-            true,
-            request.first(),
-            request.blocks(),
-            CACHED_BLOCKS as usize,
-            sectors,
-        ) {
+        let first = request.first();
+        let blocks = request.blocks();
+        let covered = self.pending.count_of(true, first, blocks);
+        match self.drain(true, first, blocks, covered, sectors) {
             WriteOut::Good => self.write_below(request, from),
             refused => refused,
         }
@@ -231,8 +228,8 @@ impl<D: Disc> Cached<D> {
         }
     }
 
-    /// Writes a request of few blocks into the cache, of a disc that has n sectors: the oldest pending blocks that it does not
-    /// cover leave first, as many as have to.
+    /// Writes a request of few blocks into the cache, of a disc that has n sectors: of the pending blocks that it does not cover as
+    /// many as have to leave first.
     ///
     /// # Clauses
     ///
@@ -251,9 +248,9 @@ impl<D: Disc> Cached<D> {
     {
         let first = request.first();
         let blocks = request.blocks();
-        let others = self.pending.count_others(first, blocks);
+        let others = self.pending.count_of(false, first, blocks);
         let leave = (others + blocks as usize).saturating_sub(CACHED_BLOCKS as usize);
-        match self.flush_due(false, first, blocks, leave, sectors) {
+        match self.drain(false, first, blocks, leave, sectors) {
             WriteOut::Good => self.take_over(request, from),
             refused => refused,
         }

@@ -1,5 +1,5 @@
 -- What is so of a sector in each value of its block stays so over a line that does not write it, by what the line does.
-use Rattle.std.specs.Prelude.{◌≡◌, ℕ, ◌+◌, ◌*◌, ◌<◌, ◌≤◌, ◌==◌, ◌⊎◌, Bool, true, false, is_some, Result, Ok, Err, List, [], ◌∷◌, length}
+use Rattle.std.specs.Prelude.{◌&&◌, not, ◌≡◌, ℕ, ◌+◌, ◌*◌, ◌<◌, ◌≤◌, ◌==◌, ◌⊎◌, Bool, true, false, is_some, Result, Ok, Err, List, [], ◌∷◌, length}
 use Rattle.std.specs.Bool.{MatchBool}
 use Rattle.std.proofs.Common.{ℕ, arith, refl, sym, inl, inr, subst}
 use Rattle.std.proofs.lemmas.List.Elements.{All-head, All-tail}
@@ -27,6 +27,8 @@ use Rattle.ram_medium.specs.declared.control.FailEnd.TheVariants as fails
 use Rattle.ram_report.specs.declared.printing.Event.TheVariants as events
 use Rattle.ram_text.specs.declared.script.Line.{Line}
 use Rattle.ram_text.specs.declared.script.Line.TheVariants as lines
+use Rattle.model_modes.specs.ParameterLists.{caches_after}
+use Rattle.model_target.proofs.Settling.{Settles, started, selected}
 use Rattle.ram_machine.specs.declared.reply.Reply.TheVariants as replies
 use Rattle.ram_machine.specs.declared.stopped.Stopped.TheVariants as stopped
 use Rattle.ram_machine.specs.Control.{contents_after_fail}
@@ -105,6 +107,9 @@ module _ (S : List ℕ → Type 0) (at : ℕ) where
     told_keeps true alloc answer data_in p = untouched_keeps p.is_answered.untouched
     told_keeps false alloc answer data_in p = untouched_keeps p.untouched
 
+    settles_keeps : (answer : Answer) (data_in : List ℕ) → Settles old new (λ x. x ≡ s) (λ x. x ≡ t) answer data_in → SoInContents S at t
+    settles_keeps answer data_in p = sync_falls (SoInBlock S at) (block_with at) p.mid s t p.out (p.step s refl) so
+
     done_keeps : (host : Host) (payload : List ℕ) (command : Command) (answer : Answer) (data_in : List ℕ) → IsDone old new (λ x. x ≡ s) (λ x. x ≡ t) host payload command answer data_in
         → LeavesAsAsked at command → HasItsData payload command → SoInContents S at t
     done_keeps host payload commands.TestUnitReady answer data_in p leaves given = untouched_keeps p.untouched
@@ -112,18 +117,23 @@ module _ (S : List ℕ → Type 0) (at : ℕ) where
     done_keeps host payload (commands.Format kind) answer data_in p leaves given = absurd leaves
     done_keeps host payload (commands.Expand sectors) answer data_in p leaves given = expand_falls (SoInBlock S at) (block_with at) s t sectors p.out (p.step s refl) so
     done_keeps host payload (commands.Inquiry vital alloc) answer data_in p leaves given = untouched_keeps p.untouched
-    done_keeps host payload (commands.StartStop start eject) answer data_in p leaves given = untouched_keeps p.untouched
+    done_keeps host payload (commands.StartStop start eject) answer data_in p leaves given =
+        elim (started old new (λ x. x ≡ s) (λ x. x ≡ t) (eject && not start) answer data_in p) [ inl settles ↦ settles_keeps answer data_in settles | inr q ↦ untouched_keeps q.untouched ]
     done_keeps host payload (commands.Prevent on) answer data_in p leaves given = untouched_keeps p.untouched
     done_keeps host payload (commands.FormatCapacities alloc) answer data_in p leaves given = untouched_keeps p.untouched
     done_keeps host payload commands.ReadCapacity answer data_in p leaves given = untouched_keeps p.untouched
     done_keeps host payload (commands.Read lba n) answer data_in p leaves given = read_falls (SoInBlock S at) (block_with at) s t lba n p.bytes p.out (p.step s refl) so
     done_keeps host payload (commands.Write lba n fua) answer data_in p leaves given = write_keeps old new s t lba n fua payload p.out stood given leaves p.cause (p.step s refl) so
     done_keeps host payload (commands.Verify lba n) answer data_in p leaves given = verify_falls (SoInBlock S at) (block_with at) s t p.out (p.step s refl) so
-    done_keeps host payload commands.Synchronize answer data_in p leaves given = sync_falls (SoInBlock S at) (block_with at) s t p.out (p.step s refl) so
+    done_keeps host payload commands.Synchronize answer data_in p leaves given = sync_falls (SoInBlock S at) (block_with at) new s t p.out (p.step s refl) so
     done_keeps host payload (commands.Configuration rt start alloc) answer data_in p leaves given = untouched_keeps p.untouched
     done_keeps host payload (commands.Events media alloc) answer data_in p leaves given = untouched_keeps p.untouched
     done_keeps host payload (commands.DiscInformation alloc) answer data_in p leaves given = untouched_keeps p.untouched
-    done_keeps host payload commands.ModeSelect answer data_in p leaves given = subst (SoInContents S at) (p.stands s refl) so
+    done_keeps host payload commands.ModeSelect answer data_in p leaves given =
+        elim (selected old new (λ x. x ≡ s) (λ x. x ≡ t) (old.caches && not (caches_after payload old.caches)) payload answer data_in p) [
+          | inl settles ↦ settles_keeps answer data_in settles
+          | inr q ↦ subst (SoInContents S at) (q.stands s refl) so
+        ]
     done_keeps host payload (commands.ModeSense short control page alloc) answer data_in p leaves given = untouched_keeps p.untouched
     done_keeps host payload (commands.Structure format alloc) answer data_in p leaves given = told_keeps (format == 0x08) alloc answer data_in p
     done_keeps host payload commands.Streaming answer data_in p leaves given = untouched_keeps p.untouched

@@ -1,5 +1,5 @@
 -- While the write cache is never turned on, a drive with one is a drive without: each line of it is a line of that, and so is a run.
-use Rattle.std.specs.Prelude.{◌≡◌, ℕ, ◌==◌, ◌++◌, ◌&&◌, ◌⊎◌, Bool, true, false, MatchBool, IsSome, is_some, Some, Result, Ok, Err, List, [], ◌∷◌, take}
+use Rattle.std.specs.Prelude.{not, ◌≡◌, ℕ, ◌==◌, ◌&&◌, ◌⊎◌, Bool, true, false, MatchBool, IsSome, is_some, Some, Result, Ok, Err, List, [], ◌∷◌, take}
 use Rattle.std.specs.List.{find}
 use Rattle.std.proofs.Common.{refl, sym, ap, ◌∙◌, inl, inr, subst}
 use Rattle.std.proofs.lemmas.List.Elements.{All-head, All-tail}
@@ -19,6 +19,7 @@ use Rattle.model_sectors.specs.declared.PowerOut.TheVariants as powers
 use Rattle.model_drive.specs.Shown.{Shown, StandsFor, IsOn, capacity}
 use Rattle.model_drive.specs.declared.Kind.{Kind}
 use Rattle.model_drive.specs.declared.WriteOut.{WriteOut}
+use Rattle.model_drive.specs.declared.WriteOut.TheVariants as writes
 use Rattle.model_cache.specs.declared.SyncOut.{SyncOut}
 use Rattle.model_cache.specs.declared.SyncOut.TheVariants as syncs
 use Rattle.model_cache.specs.declared.TickOut.{TickOut}
@@ -28,7 +29,7 @@ use Rattle.model_cache.specs.Shown.{CacheShown, CacheStandsFor}
 use Rattle.model_cache.specs.Causes.{leaves_after_read, ThroughCause, SyncCause, TickCause}
 use Rattle.model_cache.specs.Steps.{ThroughContents, SyncContents, TickContents, PowerContents}
 use Rattle.model_cache.specs.Plain.{uncached}
-use Rattle.model_cache.proofs.Plainly.{is_uncached, plain_read_cause, plain_read_quiet, plain_read_step, plain_verify_cause, plain_verify_step, plain_write_cause, plain_write_step, plain_format_cause, plain_format_step, plain_expand_cause, plain_expand_step, plain_power_cause, plain_power_step}
+use Rattle.model_cache.proofs.Plainly.{is_uncached, none_drained, plain_read_cause, plain_read_quiet, plain_read_step, plain_verify_cause, plain_verify_step, plain_write_cause, plain_write_step, plain_format_cause, plain_format_step, plain_expand_cause, plain_expand_step, plain_power_cause, plain_power_step}
 use Rattle.model_cache.proofs.SameBlocks.{stands_for_it}
 use Rattle.model_scrub.specs.declared.ends.StepEnd.{StepEnd}
 use Rattle.model_scrub.specs.declared.ends.StepEnd.TheVariants as steps
@@ -47,7 +48,7 @@ use Rattle.model_cdb.specs.Decoding.{refusal, unless, decoded}
 use Rattle.model_target.specs.declared.host.Host.{Host}
 use Rattle.model_target.specs.Judging.{asked, IsAllowed, IsJudgedBy, IsJudged}
 use Rattle.model_target.specs.Replies.{sense_reply, inquiry_by, capacity_reply, events_reply, structure_reply}
-use Rattle.model_target.specs.Steps.{write_answer, sync_answer, configuration_told, disc_told, capacities_told, spares_told, WrittenCause, WrittenContents, IsRead, IsFormatted, IsExpanded, IsVerified, IsSynchronised, IsSelected, IsAnswered, TellsStructure, TellsSpares, IsDone, IsAnsweredBy, IsStep as ExecutesTo}
+use Rattle.model_target.specs.Steps.{write_answer, sync_answer, settle_answer, configuration_told, disc_told, capacities_told, spares_told, WrittenCause, WrittenContents, IsRead, IsFormatted, IsExpanded, IsVerified, IsSynchronised, IsSettled, IsSelected, IsAnswered, TellsStructure, TellsSpares, IsDone, IsAnsweredBy, IsStep as ExecutesTo}
 use Rattle.ram_mmc.proofs.Judged.{allowed_holds}
 use Rattle.ram_medium.specs.declared.control.FailEnd.{FailEnd}
 use Rattle.ram_medium.specs.declared.control.FailEnd.TheVariants as fails
@@ -67,10 +68,6 @@ use Rattle.ram_machine.specs.Alone.{StandsAlone, IsAlone, LeavesAloneAsDecoded, 
 use Rattle.ram_machine.specs.PlainCommands.{PlainAnswer, PlainRead, PlainWrite, PlainVerification, PlainFormat, PlainExpansion, PlainStructure, PlainSpares, PlainDone, PlainlyAnswered, PlainCommand}
 use Rattle.ram_machine.specs.PlainRuns.{PlainServed, PlainState, PlainImage, PlainDisc, plainly_renewed, plain_kind, IsUnopenedPress, IsPlainlyLeft, IsPlainlyInserted, IsPlainlyFirst, IsServedPlainly, IsInPlainly, stands_after_fail, stands_after_step, stands_after_pass, PlainScrubStep, PlainScrubPass, KeepsPlainly, PlainPower, PlainFail, PlainWear, PlainCut, PlainTick, PlainRule, PlainDiscStep, OnPlainDisc, IsPlainlyPressed, IsUnopenedPlainly, IsHalfPlainly, PlainPress, PlainStep, PlainRun}
 use Rattle.ram_machine.proofs.Decoded.{asks_for}
-
-none_due : (done : List ℕ) (block : ℕ) (rest : List ℕ) → [] ≡ done ++ block ∷ rest → ⊥
-none_due [] block rest is = cc
-none_due (i ∷ done) block rest is = cc
 
 no_oldest : (block : ℕ) (rest : List ℕ) → [] ≡ block ∷ rest → ⊥
 no_oldest block rest is = cc
@@ -140,21 +137,43 @@ module _ (drive : Shown) (new : CacheShown) (s : Standing) (t : Contents) where
       → Leaves new t (λ u. PlainAnswer drive new.drive s u answer due data_in reply)
   answered answer due data_in reply p = as_answered answer due data_in reply p.answer_is p.data_is p.untouched.same (p.untouched.stands (plain s) refl)
 
-  by_standing : (out : SyncOut) (good : out ≡ syncs.Good) (u : Standing) → SyncContents (λ x. x ≡ t) (plain u) out → plain u ≡ t
-  by_standing out good u step = of_good u (subst (SyncContents (λ x. x ≡ t) (plain u)) good step)
+  by_standing : (out : SyncOut) (good : out ≡ syncs.Good) (u : Standing) → SyncContents new (λ x. x ≡ t) (plain u) out → plain u ≡ t
+  by_standing out good u step = of_good u (subst (SyncContents new (λ x. x ≡ t) (plain u)) good step)
     where
-      of_good : (u : Standing) → SyncContents (λ x. x ≡ t) (plain u) syncs.Good → plain u ≡ t
+      of_good : (u : Standing) → SyncContents new (λ x. x ≡ t) (plain u) syncs.Good → plain u ≡ t
       of_good (On disc) same = same
       of_good (Off discs) same = absurd same
 
   sync_good : IsOn drive → IsSome drive.lists → (out : SyncOut) → SyncCause (uncached drive) new out → (out ≡ syncs.Good) × (new ≡ uncached drive)
-  sync_good on formatted syncs.Good cause = (refl, cause.flushed)
+  sync_good on formatted syncs.Good cause = (refl, (none_drained (uncached drive) new writes.Good cause.drained).1)
   sync_good on formatted syncs.NotFormatted cause = absurd (cause.unformatted formatted)
-  sync_good on formatted (syncs.NoSpare lba) cause = absurd (none_due cause.ends.done cause.ends.block cause.ends.rest cause.ends.due_is)
-  sync_good on formatted (syncs.NoUpdate counter) cause = absurd (none_due cause.ends.done cause.ends.block cause.ends.rest cause.ends.due_is)
-  sync_good on formatted syncs.Cut cause = absurd (none_due cause.ends.done cause.ends.block cause.ends.rest cause.ends.due_is)
+  sync_good on formatted (syncs.NoSpare lba) cause = absurd (let e = (none_drained (uncached drive) new (writes.NoSpare lba) cause.drained).0 in cc)
+  sync_good on formatted (syncs.NoUpdate counter) cause = absurd (let e = (none_drained (uncached drive) new (writes.NoUpdate counter) cause.drained).0 in cc)
+  sync_good on formatted syncs.Cut cause = absurd (let e = (none_drained (uncached drive) new writes.Cut cause.drained).0 in cc)
   sync_good on formatted syncs.Off cause = absurd (cause.off on)
-  sync_good on formatted syncs.Fault cause = absurd (none_due cause.ends.done cause.ends.block cause.ends.rest cause.ends.due_is)
+  sync_good on formatted syncs.Fault cause = absurd (let e = (none_drained (uncached drive) new writes.Fault cause.drained).0 in cc)
+
+  -- before an ejection there is nothing to write
+  settle_good : IsOn drive → (out : SyncOut) → SyncCause (uncached drive) new out → SyncContents new (λ x. x ≡ t) (plain s) out → (settle_answer out ≡ answers.Good) × (new ≡ uncached drive) × (plain s ≡ t)
+  settle_good on syncs.Good cause step = (refl, (none_drained (uncached drive) new writes.Good cause.drained).1, by_standing syncs.Good refl s step)
+  settle_good on syncs.NotFormatted cause step = (refl, cause.nothing, unformatted s step)
+    where
+      unformatted : (u : Standing) → SyncContents new (λ x. x ≡ t) (plain u) syncs.NotFormatted → plain u ≡ t
+      unformatted (On disc) same = same.1
+      unformatted (Off discs) same = absurd same
+  settle_good on (syncs.NoSpare lba) cause step = absurd (let e = (none_drained (uncached drive) new (writes.NoSpare lba) cause.drained).0 in cc)
+  settle_good on (syncs.NoUpdate counter) cause step = absurd (let e = (none_drained (uncached drive) new (writes.NoUpdate counter) cause.drained).0 in cc)
+  settle_good on syncs.Cut cause step = absurd (let e = (none_drained (uncached drive) new writes.Cut cause.drained).0 in cc)
+  settle_good on syncs.Off cause step = absurd (cause.off on)
+  settle_good on syncs.Fault cause step = absurd (let e = (none_drained (uncached drive) new writes.Fault cause.drained).0 in cc)
+
+  start_plainly : IsOn drive → (ejected : Bool) (answer : Answer) (data_in : List ℕ)
+      → MatchBool ejected (IsSettled (uncached drive) new (λ x. x ≡ plain s) (λ x. x ≡ t) answer data_in) (IsAnswered (uncached drive) new (λ x. x ≡ plain s) (λ x. x ≡ t) answer answers.Good data_in [])
+      → Leaves new t (λ u. PlainAnswer drive new.drive s u answer answers.Good data_in [])
+  start_plainly on true answer data_in p =
+      let good = settle_good on p.out p.cause (p.step (plain s) refl) in
+      as_answered answer answers.Good data_in [] (p.answer_is ∙ good.0) p.no_data good.1 good.2
+  start_plainly on false answer data_in p = answered answer answers.Good data_in [] p
 
   synchronised : IsOn drive → IsSome drive.lists → (answer : Answer) (data_in : List ℕ) → IsSynchronised (uncached drive) new (λ x. x ≡ plain s) (λ x. x ≡ t) answer data_in
       → Leaves new t (λ u. PlainAnswer drive new.drive s u answer answers.Good data_in [])
@@ -261,7 +280,7 @@ module _ (drive : Shown) (new : CacheShown) (s : Standing) (t : Contents) where
   done_plainly on host payload (commands.Format kind) answer data_in formatted off p = format_plainly kind answer data_in p
   done_plainly on host payload (commands.Expand sectors) answer data_in formatted off p = expand_plainly sectors answer data_in p
   done_plainly on host payload (commands.Inquiry vital alloc) answer data_in formatted off p = answered answer answers.Good data_in (take alloc (inquiry_by vital)) p
-  done_plainly on host payload (commands.StartStop start eject) answer data_in formatted off p = answered answer answers.Good data_in [] p
+  done_plainly on host payload (commands.StartStop start eject) answer data_in formatted off p = start_plainly on (eject && not start) answer data_in p
   done_plainly on host payload (commands.Prevent locks) answer data_in formatted off p = answered answer answers.Good data_in [] p
   done_plainly on host payload (commands.FormatCapacities alloc) answer data_in formatted off p = answered answer answers.Good data_in (take alloc (capacities_told host.out drive)) p
   done_plainly on host payload commands.ReadCapacity answer data_in formatted off p = answered answer answers.Good data_in (capacity_reply (capacity drive)) p
@@ -326,7 +345,7 @@ module _ (drive : Shown) (new : CacheShown) (s : Standing) (t : Contents) where
 
   tick_idle : (out : TickOut) → TickCause (uncached drive) new out → ((IsOn drive × (out ≡ ticks.Idle)) ⊎ (¬ IsOn drive × (out ≡ ticks.Off))) × (new ≡ uncached drive)
   tick_idle ticks.Idle cause = (inl (cause.on, refl), cause.nothing)
-  tick_idle (ticks.Written lba) cause = absurd (no_oldest cause.block cause.rest cause.oldest)
+  tick_idle (ticks.Written lba) cause = absurd (no_oldest cause.0.block cause.0.rest cause.0.oldest)
   tick_idle (ticks.NoSpare lba) cause = absurd (no_oldest cause.block cause.rest cause.oldest)
   tick_idle (ticks.NoUpdate counter) cause = absurd (no_oldest cause.block cause.rest cause.oldest)
   tick_idle ticks.Cut cause = absurd (no_oldest cause.block cause.rest cause.oldest)

@@ -1,5 +1,5 @@
 -- No line makes a drive give up a block that is not dead.
-use Rattle.std.specs.Prelude.{◌≡◌, ℕ, ◌==◌, ◌≢◌, ◌⊎◌, Bool, true, false, None, Result, Ok, Err, List, [], ◌∷◌, replicate}
+use Rattle.std.specs.Prelude.{◌&&◌, not, ◌≡◌, ℕ, ◌==◌, ◌≢◌, ◌⊎◌, Bool, true, false, None, Result, Ok, Err, List, [], ◌∷◌, replicate}
 use Rattle.std.specs.Bool.{MatchBool}
 use Rattle.std.proofs.Common.{refl, sym, ap, ◌∙◌, inl, inr, subst, arith}
 use Rattle.std.proofs.lemmas.List.{get_or-replicate, get_or_past, length-replicate}
@@ -42,6 +42,8 @@ use Rattle.ram_medium.specs.declared.control.Arm.TheVariants as arming
 use Rattle.ram_report.specs.declared.printing.Event.TheVariants as events
 use Rattle.ram_text.specs.declared.script.Line.{Line}
 use Rattle.ram_text.specs.declared.script.Line.TheVariants as lines
+use Rattle.model_modes.specs.ParameterLists.{caches_after}
+use Rattle.model_target.proofs.Settling.{Settles, started, selected}
 use Rattle.ram_machine.specs.declared.reply.Reply.TheVariants as replies
 use Rattle.ram_machine.specs.declared.stopped.Stopped.TheVariants as stopped
 use Rattle.ram_machine.specs.Replies.{Outcome}
@@ -121,13 +123,17 @@ module _ (old new : CacheShown) (same : new.drive.shape ≡ old.drive.shape) (so
   written_fair lba n payload true out cause = (of_through StaysFair stays_fair lba n old new out cause (was_known, fair)).1
   written_fair lba n payload false out cause = (of_write StaysFair stays_fair lba n payload old new out cause (was_known, fair)).1
 
+  settles_fair : (answer : Answer) (data_in : List ℕ) → Settles old new before after answer data_in → GivesUpDeadAlone new.drive
+  settles_fair answer data_in p = subst GivesUpDeadAlone (sym p.same_drive) (of_sync StaysFair stays_fair old p.mid p.out p.cause (was_known, fair)).1
+
   done_fair : (host : Host) (payload : List ℕ) (command : Command) (answer : Answer) (data_in : List ℕ) → IsDone old new before after host payload command answer data_in → GivesUpDeadAlone new.drive
   done_fair host payload commands.TestUnitReady answer data_in p = untouched_fair p.untouched
   done_fair host payload (commands.RequestSense alloc) answer data_in p = untouched_fair p.untouched
   done_fair host payload (commands.Format kind) answer data_in p = format_fair old.drive new.drive same sound is_known was_known fair kind p.out p.cause.0
   done_fair host payload (commands.Expand sectors) answer data_in p = expand_fair old.drive new.drive same sound is_known was_known fair sectors p.out p.cause.0
   done_fair host payload (commands.Inquiry vital alloc) answer data_in p = untouched_fair p.untouched
-  done_fair host payload (commands.StartStop start eject) answer data_in p = untouched_fair p.untouched
+  done_fair host payload (commands.StartStop start eject) answer data_in p =
+      elim (started old new before after (eject && not start) answer data_in p) [ inl settles ↦ settles_fair answer data_in settles | inr q ↦ untouched_fair q.untouched ]
   done_fair host payload (commands.Prevent on) answer data_in p = untouched_fair p.untouched
   done_fair host payload (commands.FormatCapacities alloc) answer data_in p = untouched_fair p.untouched
   done_fair host payload commands.ReadCapacity answer data_in p = untouched_fair p.untouched
@@ -138,7 +144,11 @@ module _ (old new : CacheShown) (same : new.drive.shape ≡ old.drive.shape) (so
   done_fair host payload (commands.Configuration rt start alloc) answer data_in p = untouched_fair p.untouched
   done_fair host payload (commands.Events media alloc) answer data_in p = untouched_fair p.untouched
   done_fair host payload (commands.DiscInformation alloc) answer data_in p = untouched_fair p.untouched
-  done_fair host payload commands.ModeSelect answer data_in p = subst (λ (s : CacheShown). GivesUpDeadAlone s.drive) (sym p.mode) fair
+  done_fair host payload commands.ModeSelect answer data_in p =
+      elim (selected old new before after (old.caches && not (caches_after payload old.caches)) payload answer data_in p) [
+        | inl settles ↦ settles_fair answer data_in settles
+        | inr q ↦ subst (λ (s : CacheShown). GivesUpDeadAlone s.drive) (sym q.mode) fair
+      ]
   done_fair host payload (commands.ModeSense short control page alloc) answer data_in p = untouched_fair p.untouched
   done_fair host payload (commands.Structure format alloc) answer data_in p = told_fair (format == 0x08) alloc answer data_in p
   done_fair host payload commands.Streaming answer data_in p = untouched_fair p.untouched

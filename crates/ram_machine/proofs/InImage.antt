@@ -19,7 +19,7 @@ use Rattle.model_drive.proofs.WriteTurns.{inside_count}
 use Rattle.model_cache.specs.Values.{Values, Contents, Has, MayHave}
 use Rattle.model_cache.specs.Shown.{CacheShown, CacheStandsFor, dropped, pending_covered, goes_into_cache}
 use Rattle.model_cache.specs.Causes.{WritesThrough, ThroughCause, CachedCause}
-use Rattle.model_cache.proofs.Chained.{flushed}
+use Rattle.model_cache.proofs.Chained.{drained}
 use Rattle.model_cache.proofs.Falls.{only}
 use Rattle.model_cdb.specs.declared.commands.Command.TheVariants as commands
 use Rattle.ram_machine.specs.States.{State, Served, Unopened, Disc, IsLeft}
@@ -105,7 +105,8 @@ module _ (s t : Served) (lba n at : ℕ) (among : IsAmong lba n at) (payload ima
   by_values (Has v) is has wrote =
       let stood = subst (CacheStandsFor t.disc.shown) (sym is) t.disc.stands in
       let known = contents_known s.disc.shown s.disc.contents s.disc.stands in
-      let mid = flushed StaysWell stays_well (pending_covered true (dropped s.disc.shown) lba n) (dropped s.disc.shown) wrote.mid wrote.flushed (record { sound = s.disc.sound; known = known; same_shape = refl }) in
+      let due = pending_covered true (dropped s.disc.shown) lba n in
+      let mid = drained StaysWell stays_well due (length due) (dropped s.disc.shown) wrote.mid writes.Good wrote.drained (record { sound = s.disc.sound; known = known; same_shape = refl }) in
       let cause = wrote.wrote in
       let count : capacity t.disc.shown.drive ≡ logical_count t.disc.shown.drive.shape cause.reached * 16 =
       ap (λ (o : Option Lists). option_map_or (logical_count t.disc.shown.drive.shape) o 0 * 16) cause.ends.now_in_use in

@@ -1,5 +1,5 @@
 -- What a disc has in a sector it still has after a line that does not write the sector, while no power is lost.
-use Rattle.std.specs.Prelude.{◌≡◌, ℕ, ◌+◌, ◌*◌, ◌<◌, ◌≤◌, ◌==◌, ◌⊎◌, Bool, true, false, is_some, MatchBool, Result, Ok, Err, List, [], ◌∷◌, length}
+use Rattle.std.specs.Prelude.{◌&&◌, not, ◌≡◌, ℕ, ◌+◌, ◌*◌, ◌<◌, ◌≤◌, ◌==◌, ◌⊎◌, Bool, true, false, is_some, MatchBool, Result, Ok, Err, List, [], ◌∷◌, length}
 use Rattle.std.proofs.Common.{arith, refl, sym, ◌∙◌, inl, inr, subst}
 use Rattle.std.proofs.lemmas.List.Elements.{All-head, All-tail}
 use Rattle.model_sectors.specs.Discs.{sectors_of, replaced}
@@ -28,12 +28,14 @@ use Rattle.model_cdb.specs.declared.commands.Command.TheVariants as commands
 use Rattle.model_cdb.specs.Decoding.{decoded}
 use Rattle.model_target.specs.declared.host.Host.{Host}
 use Rattle.model_target.specs.Judging.{IsJudged}
-use Rattle.model_target.specs.Steps.{WrittenCause, WrittenContents, Untouched, TellsStructure, TellsSpares, IsDone, IsAnsweredBy, IsStep as ExecutesTo, read_answer, write_answer, expand_answer, sync_answer}
+use Rattle.model_target.specs.Steps.{settle_answer, WrittenCause, WrittenContents, Untouched, TellsStructure, TellsSpares, IsDone, IsAnsweredBy, IsStep as ExecutesTo, read_answer, write_answer, expand_answer, sync_answer}
 use Rattle.ram_medium.specs.declared.control.FailEnd.{FailEnd}
 use Rattle.ram_medium.specs.declared.control.FailEnd.TheVariants as fails
 use Rattle.ram_report.specs.declared.printing.Event.TheVariants as events
 use Rattle.ram_text.specs.declared.script.Line.{Line}
 use Rattle.ram_text.specs.declared.script.Line.TheVariants as lines
+use Rattle.model_modes.specs.ParameterLists.{caches_after}
+use Rattle.model_target.proofs.Settling.{Settles, started, selected}
 use Rattle.ram_machine.specs.declared.reply.Reply.{Reply}
 use Rattle.ram_machine.specs.declared.reply.Reply.TheVariants as replies
 use Rattle.ram_machine.specs.declared.stopped.Stopped.TheVariants as stopped
@@ -98,15 +100,24 @@ module _ (at : ℕ) (bytes : List ℕ) where
     verify_shows (Has v) reads.Fault step power keeps = absurd power
     verify_shows (MayHave all) out step power keeps = absurd keeps
 
-    sync_shows : (s : Contents) (out : SyncOut) → SyncContents (λ x. x ≡ t) s out → PowerStays (sync_answer out) → KeepsShown s → KeepsShown t
-    sync_shows (Has v) syncs.Good step power keeps = subst KeepsShown step keeps
-    sync_shows (Has v) syncs.NotFormatted step power keeps = carry v t step.1 keeps
-    sync_shows (Has v) (syncs.NoSpare lba) step power keeps = carry v t step keeps
-    sync_shows (Has v) (syncs.NoUpdate counter) step power keeps = carry v t step keeps
-    sync_shows (Has v) syncs.Cut step power keeps = absurd power
-    sync_shows (Has v) syncs.Off step power keeps = absurd step
-    sync_shows (Has v) syncs.Fault step power keeps = absurd power
-    sync_shows (MayHave all) out step power keeps = absurd keeps
+    sync_shows : (new : CacheShown) (s : Contents) (out : SyncOut) → SyncContents new (λ x. x ≡ t) s out → PowerStays (sync_answer out) → KeepsShown s → KeepsShown t
+    sync_shows new (Has v) syncs.Good step power keeps = subst KeepsShown step keeps
+    sync_shows new (Has v) syncs.NotFormatted step power keeps = carry v t step.1 keeps
+    sync_shows new (Has v) (syncs.NoSpare lba) step power keeps = subst KeepsShown step keeps
+    sync_shows new (Has v) (syncs.NoUpdate counter) step power keeps = subst KeepsShown step keeps
+    sync_shows new (Has v) syncs.Cut step power keeps = absurd power
+    sync_shows new (Has v) syncs.Off step power keeps = absurd step
+    sync_shows new (Has v) syncs.Fault step power keeps = absurd power
+    sync_shows new (MayHave all) out step power keeps = absurd keeps
+
+    settle_shows : (new : CacheShown) (s : Contents) (out : SyncOut) → SyncContents new (λ x. x ≡ t) s out → PowerStays (settle_answer out) → KeepsShown s → KeepsShown t
+    settle_shows new s syncs.Good step power keeps = sync_shows new s syncs.Good step tt keeps
+    settle_shows new s syncs.NotFormatted step power keeps = sync_shows new s syncs.NotFormatted step tt keeps
+    settle_shows new s (syncs.NoSpare lba) step power keeps = sync_shows new s (syncs.NoSpare lba) step tt keeps
+    settle_shows new s (syncs.NoUpdate counter) step power keeps = sync_shows new s (syncs.NoUpdate counter) step tt keeps
+    settle_shows new s syncs.Cut step power keeps = absurd power
+    settle_shows new s syncs.Off step power keeps = sync_shows new s syncs.Off step power keeps
+    settle_shows new s syncs.Fault step power keeps = absurd power
 
     tick_shows : (s : Contents) (out : TickOut) (reply : Reply) → TickContents (λ x. x ≡ t) s out → Ok reply ≡ tick_outcome out → KeepsPower lines.Tick reply → KeepsShown s → KeepsShown t
     tick_shows (Has v) ticks.Idle reply step is power keeps = carry v t step keeps
@@ -195,6 +206,9 @@ module _ (at : ℕ) (bytes : List ℕ) where
     told_shows true alloc answer data_in p = untouched_shows p.is_answered.untouched
     told_shows false alloc answer data_in p = untouched_shows p.untouched
 
+    settles_shows : (answer : Answer) (data_in : List ℕ) → Settles old new (λ x. x ≡ s) (λ x. x ≡ t) answer data_in → PowerStays answer → KeepsShown t
+    settles_shows answer data_in p power = settle_shows t p.mid s p.out (p.step s refl) (subst PowerStays p.answer_is power) keeps
+
     done_shows : (host : Host) (payload : List ℕ) (command : Command) (answer : Answer) (data_in : List ℕ) → IsDone old new (λ x. x ≡ s) (λ x. x ≡ t) host payload command answer data_in → PowerStays answer
         → LeavesAsAsked at command → HasItsData payload command → KeepsShown t
     done_shows host payload commands.TestUnitReady answer data_in p power leaves given = untouched_shows p.untouched
@@ -202,18 +216,23 @@ module _ (at : ℕ) (bytes : List ℕ) where
     done_shows host payload (commands.Format kind) answer data_in p power leaves given = absurd leaves
     done_shows host payload (commands.Expand sectors) answer data_in p power leaves given = expand_shows t s sectors p.out (p.step s refl) (subst PowerStays p.answer_is power) keeps
     done_shows host payload (commands.Inquiry vital alloc) answer data_in p power leaves given = untouched_shows p.untouched
-    done_shows host payload (commands.StartStop start eject) answer data_in p power leaves given = untouched_shows p.untouched
+    done_shows host payload (commands.StartStop start eject) answer data_in p power leaves given =
+        elim (started old new (λ x. x ≡ s) (λ x. x ≡ t) (eject && not start) answer data_in p) [ inl settles ↦ settles_shows answer data_in settles power | inr q ↦ untouched_shows q.untouched ]
     done_shows host payload (commands.Prevent on) answer data_in p power leaves given = untouched_shows p.untouched
     done_shows host payload (commands.FormatCapacities alloc) answer data_in p power leaves given = untouched_shows p.untouched
     done_shows host payload commands.ReadCapacity answer data_in p power leaves given = untouched_shows p.untouched
     done_shows host payload (commands.Read lba n) answer data_in p power leaves given = read_shows t s lba n p.bytes p.out (p.step s refl) (subst PowerStays p.answer_is power) keeps
     done_shows host payload (commands.Write lba n fua) answer data_in p power leaves given = write_shows t old new s lba n fua payload p.out stood given leaves p.cause (p.step s refl) (subst PowerStays p.answer_is power) keeps
     done_shows host payload (commands.Verify lba n) answer data_in p power leaves given = verify_shows t s p.out (p.step s refl) (subst PowerStays p.answer_is power) keeps
-    done_shows host payload commands.Synchronize answer data_in p power leaves given = sync_shows t s p.out (p.step s refl) (subst PowerStays p.answer_is power) keeps
+    done_shows host payload commands.Synchronize answer data_in p power leaves given = sync_shows t new s p.out (p.step s refl) (subst PowerStays p.answer_is power) keeps
     done_shows host payload (commands.Configuration rt start alloc) answer data_in p power leaves given = untouched_shows p.untouched
     done_shows host payload (commands.Events media alloc) answer data_in p power leaves given = untouched_shows p.untouched
     done_shows host payload (commands.DiscInformation alloc) answer data_in p power leaves given = untouched_shows p.untouched
-    done_shows host payload commands.ModeSelect answer data_in p power leaves given = subst KeepsShown (p.stands s refl) keeps
+    done_shows host payload commands.ModeSelect answer data_in p power leaves given =
+        elim (selected old new (λ x. x ≡ s) (λ x. x ≡ t) (old.caches && not (caches_after payload old.caches)) payload answer data_in p) [
+          | inl settles ↦ settles_shows answer data_in settles power
+          | inr q ↦ subst KeepsShown (q.stands s refl) keeps
+        ]
     done_shows host payload (commands.ModeSense short control page alloc) answer data_in p power leaves given = untouched_shows p.untouched
     done_shows host payload (commands.Structure format alloc) answer data_in p power leaves given = told_shows (format == 0x08) alloc answer data_in p
     done_shows host payload commands.Streaming answer data_in p power leaves given = untouched_shows p.untouched

@@ -1,7 +1,7 @@
 -- No line changes the label of the medium, nor the geometry: an image keeps the geometry that it was pressed with.
-use Rattle.std.specs.Prelude.{◌≡◌, ℕ, ◌==◌, Bool, true, false, Result, Ok, Err, List}
+use Rattle.std.specs.Prelude.{◌&&◌, not, ◌≡◌, ℕ, ◌==◌, Bool, true, false, Result, Ok, Err, List}
 use Rattle.std.specs.Bool.{MatchBool}
-use Rattle.std.proofs.Common.{refl, sym, ap, ◌∙◌, inl, inr}
+use Rattle.std.proofs.Common.{subst, refl, sym, ap, ◌∙◌, inl, inr}
 use Rattle.model_geometry.specs.Geometry.{label_of}
 use Rattle.model_medium.specs.Machine.{Machine}
 use Rattle.model_medium.specs.declared.WornBlock.{WornBlock}
@@ -26,6 +26,8 @@ use Rattle.ram_medium.specs.declared.control.Arm.TheVariants as arming
 use Rattle.ram_states.specs.Control.{FailOnDrive}
 use Rattle.ram_text.specs.declared.script.Line.{Line}
 use Rattle.ram_text.specs.declared.script.Line.TheVariants as lines
+use Rattle.model_modes.specs.ParameterLists.{caches_after}
+use Rattle.model_target.proofs.Settling.{Settles, started, selected}
 use Rattle.ram_machine.specs.Replies.{Outcome}
 use Rattle.ram_machine.specs.States.{IsLabelled}
 use Rattle.ram_machine.specs.LineSteps.{DiscRule}
@@ -67,13 +69,17 @@ module _ (old new : CacheShown) (before after : Contents → Type 0) where
   written_label lba n payload true out cause = of_through (λ faulted a b. SameLabel a b) label_holds lba n old new out cause
   written_label lba n payload false out cause = of_write (λ faulted a b. SameLabel a b) label_holds lba n payload old new out cause
 
+  settles_label : (answer : Answer) (data_in : List ℕ) → Settles old new before after answer data_in → SameLabel old.drive new.drive
+  settles_label answer data_in p = subst (SameLabel old.drive) (sym p.same_drive) (of_sync (λ faulted a b. SameLabel a b) label_holds old p.mid p.out p.cause)
+
   done_label : (host : Host) (payload : List ℕ) (command : Command) (answer : Answer) (data_in : List ℕ) → IsDone old new before after host payload command answer data_in → SameLabel old.drive new.drive
   done_label host payload commands.TestUnitReady answer data_in p = untouched_label p.untouched
   done_label host payload (commands.RequestSense alloc) answer data_in p = untouched_label p.untouched
   done_label host payload (commands.Format kind) answer data_in p = (format_kept old.drive new.drive kind p.out p.cause.0).same_label
   done_label host payload (commands.Expand sectors) answer data_in p = (expand_kept old.drive new.drive sectors p.out p.cause.0).same_label
   done_label host payload (commands.Inquiry vital alloc) answer data_in p = untouched_label p.untouched
-  done_label host payload (commands.StartStop start eject) answer data_in p = untouched_label p.untouched
+  done_label host payload (commands.StartStop start eject) answer data_in p =
+      elim (started old new before after (eject && not start) answer data_in p) [ inl settles ↦ settles_label answer data_in settles | inr q ↦ untouched_label q.untouched ]
   done_label host payload (commands.Prevent on) answer data_in p = untouched_label p.untouched
   done_label host payload (commands.FormatCapacities alloc) answer data_in p = untouched_label p.untouched
   done_label host payload commands.ReadCapacity answer data_in p = untouched_label p.untouched
@@ -84,7 +90,11 @@ module _ (old new : CacheShown) (before after : Contents → Type 0) where
   done_label host payload (commands.Configuration rt start alloc) answer data_in p = untouched_label p.untouched
   done_label host payload (commands.Events media alloc) answer data_in p = untouched_label p.untouched
   done_label host payload (commands.DiscInformation alloc) answer data_in p = untouched_label p.untouched
-  done_label host payload commands.ModeSelect answer data_in p = ap (λ (s : CacheShown). s.drive.medium.world.label) p.mode
+  done_label host payload commands.ModeSelect answer data_in p =
+      elim (selected old new before after (old.caches && not (caches_after payload old.caches)) payload answer data_in p) [
+        | inl settles ↦ settles_label answer data_in settles
+        | inr q ↦ ap (λ (s : CacheShown). s.drive.medium.world.label) q.mode
+      ]
   done_label host payload (commands.ModeSense short control page alloc) answer data_in p = untouched_label p.untouched
   done_label host payload (commands.Structure format alloc) answer data_in p = told_label (format == 0x08) alloc answer data_in p
   done_label host payload commands.Streaming answer data_in p = untouched_label p.untouched

@@ -1,5 +1,5 @@
 -- No line but a press and a full format makes a formatted disc unformatted.
-use Rattle.std.specs.Prelude.{◌≡◌, ℕ, ◌==◌, ◌*◌, ◌⊎◌, Bool, true, false, IsTrue, is_some, None, Result, Ok, Err, List, [], ◌∷◌}
+use Rattle.std.specs.Prelude.{◌&&◌, not, ◌≡◌, ℕ, ◌==◌, ◌*◌, ◌⊎◌, Bool, true, false, IsTrue, is_some, None, Result, Ok, Err, List, [], ◌∷◌}
 use Rattle.std.specs.Bool.{MatchBool}
 use Rattle.std.specs.List.{Contains}
 use Rattle.std.proofs.Common.{arith, zero, suc, refl, sym, ap, ◌∙◌, inl, inr, subst}
@@ -43,6 +43,8 @@ use Rattle.ram_states.specs.Control.{FailOnDrive}
 use Rattle.ram_report.specs.declared.printing.Event.TheVariants as events
 use Rattle.ram_text.specs.declared.script.Line.{Line}
 use Rattle.ram_text.specs.declared.script.Line.TheVariants as lines
+use Rattle.model_modes.specs.ParameterLists.{caches_after}
+use Rattle.model_target.proofs.Settling.{Settles, started, selected}
 use Rattle.ram_machine.specs.declared.reply.Reply.{Reply}
 use Rattle.ram_machine.specs.declared.reply.Reply.TheVariants as replies
 use Rattle.ram_machine.specs.Replies.{Outcome, power_outcome}
@@ -97,13 +99,17 @@ module _ (old new : CacheShown) (before after : Contents → Type 0) where
   told_dead true alloc answer data_in p = cache_dead p.is_answered.untouched.same
   told_dead false alloc answer data_in p = cache_dead p.untouched.same
 
+  settles_dead : (answer : Answer) (data_in : List ℕ) → Settles old new before after answer data_in → DeadStay old.drive new.drive
+  settles_dead answer data_in p = subst (DeadStay old.drive) (sym p.same_drive) (of_sync (λ faulted a b. DeadStay a b) stays_dead old p.mid p.out p.cause)
+
   done_dead : (host : Host) (payload : List ℕ) (command : Command) (answer : Answer) (data_in : List ℕ) → IsDone old new before after host payload command answer data_in → DeadStay old.drive new.drive
   done_dead host payload commands.TestUnitReady answer data_in p = cache_dead p.untouched.same
   done_dead host payload (commands.RequestSense alloc) answer data_in p = cache_dead p.untouched.same
   done_dead host payload (commands.Format kind) answer data_in p = format_dead old.drive new.drive kind p.out p.cause.0
   done_dead host payload (commands.Expand sectors) answer data_in p = expand_dead old.drive new.drive sectors p.out p.cause.0
   done_dead host payload (commands.Inquiry vital alloc) answer data_in p = cache_dead p.untouched.same
-  done_dead host payload (commands.StartStop start eject) answer data_in p = cache_dead p.untouched.same
+  done_dead host payload (commands.StartStop start eject) answer data_in p =
+      elim (started old new before after (eject && not start) answer data_in p) [ inl settles ↦ settles_dead answer data_in settles | inr q ↦ cache_dead q.untouched.same ]
   done_dead host payload (commands.Prevent on) answer data_in p = cache_dead p.untouched.same
   done_dead host payload (commands.FormatCapacities alloc) answer data_in p = cache_dead p.untouched.same
   done_dead host payload commands.ReadCapacity answer data_in p = cache_dead p.untouched.same
@@ -114,7 +120,11 @@ module _ (old new : CacheShown) (before after : Contents → Type 0) where
   done_dead host payload (commands.Configuration rt start alloc) answer data_in p = cache_dead p.untouched.same
   done_dead host payload (commands.Events media alloc) answer data_in p = cache_dead p.untouched.same
   done_dead host payload (commands.DiscInformation alloc) answer data_in p = cache_dead p.untouched.same
-  done_dead host payload commands.ModeSelect answer data_in p = λ block dead. ap (λ (s : CacheShown). cell_at (cells_in s.drive) block) p.mode ∙ dead
+  done_dead host payload commands.ModeSelect answer data_in p =
+      elim (selected old new before after (old.caches && not (caches_after payload old.caches)) payload answer data_in p) [
+        | inl settles ↦ settles_dead answer data_in settles
+        | inr q ↦ (λ block dead. ap (λ (s : CacheShown). cell_at (cells_in s.drive) block) q.mode ∙ dead)
+      ]
   done_dead host payload (commands.ModeSense short control page alloc) answer data_in p = cache_dead p.untouched.same
   done_dead host payload (commands.Structure format alloc) answer data_in p = told_dead (format == 0x08) alloc answer data_in p
   done_dead host payload commands.Streaming answer data_in p = cache_dead p.untouched.same
@@ -235,6 +245,10 @@ module _ (old new : CacheShown) (same : new.drive.shape ≡ old.drive.shape) (wa
   told_lasts true alloc answer data_in p = untouched_lasts p.is_answered.untouched.same
   told_lasts false alloc answer data_in p = untouched_lasts p.untouched.same
 
+  settles_lasts : (answer : Answer) (data_in : List ℕ) {leaves : Type 0} → Settles old new before after answer data_in → LastsOn new.drive version sizes leaves
+  settles_lasts answer data_in p =
+      as_sized (subst (λ (d : Shown). StaysFormatted d version sizes) (sym p.same_drive) (of_sync (StaysOn version sizes) (stays_on version sizes) old p.mid p.out p.cause old.drive.shape was_on).1)
+
   done_lasts : (host : Host) (payload : List ℕ) (command : Command) (answer : Answer) (data_in : List ℕ) → KeepsAsAsked command → IsDone old new before after host payload command answer data_in
       → LastsOn new.drive version sizes (AsksNoExpansion (Ok command))
   done_lasts host payload commands.TestUnitReady answer data_in keeps p = untouched_lasts p.untouched.same
@@ -243,7 +257,8 @@ module _ (old new : CacheShown) (same : new.drive.shape ≡ old.drive.shape) (wa
   done_lasts host payload (commands.Format kinds.Rewrite) answer data_in keeps p = as_sized (format_stays old.drive new.drive version sizes same s sound is_known was_sound was_known p.out p.cause.0)
   done_lasts host payload (commands.Expand sectors) answer data_in keeps p = (ssa_for old.drive.shape sectors ∷ sizes, expand_stays old.drive new.drive version sizes same s sound is_known was_sound was_known sectors p.out p.cause.0, λ none. absurd none)
   done_lasts host payload (commands.Inquiry vital alloc) answer data_in keeps p = untouched_lasts p.untouched.same
-  done_lasts host payload (commands.StartStop start eject) answer data_in keeps p = untouched_lasts p.untouched.same
+  done_lasts host payload (commands.StartStop start eject) answer data_in keeps p =
+      elim (started old new before after (eject && not start) answer data_in p) [ inl settles ↦ settles_lasts answer data_in settles | inr q ↦ untouched_lasts q.untouched.same ]
   done_lasts host payload (commands.Prevent on) answer data_in keeps p = untouched_lasts p.untouched.same
   done_lasts host payload (commands.FormatCapacities alloc) answer data_in keeps p = untouched_lasts p.untouched.same
   done_lasts host payload commands.ReadCapacity answer data_in keeps p = untouched_lasts p.untouched.same
@@ -254,7 +269,11 @@ module _ (old new : CacheShown) (same : new.drive.shape ≡ old.drive.shape) (wa
   done_lasts host payload (commands.Configuration rt start alloc) answer data_in keeps p = untouched_lasts p.untouched.same
   done_lasts host payload (commands.Events media alloc) answer data_in keeps p = untouched_lasts p.untouched.same
   done_lasts host payload (commands.DiscInformation alloc) answer data_in keeps p = untouched_lasts p.untouched.same
-  done_lasts host payload commands.ModeSelect answer data_in keeps p = as_sized (subst (λ (x : CacheShown). StaysFormatted x.drive version sizes) (sym p.mode) s)
+  done_lasts host payload commands.ModeSelect answer data_in keeps p =
+      elim (selected old new before after (old.caches && not (caches_after payload old.caches)) payload answer data_in p) [
+        | inl settles ↦ settles_lasts answer data_in settles
+        | inr q ↦ as_sized (subst (λ (x : CacheShown). StaysFormatted x.drive version sizes) (sym q.mode) s)
+      ]
   done_lasts host payload (commands.ModeSense short control page alloc) answer data_in keeps p = untouched_lasts p.untouched.same
   done_lasts host payload (commands.Structure format alloc) answer data_in keeps p = told_lasts (format == 0x08) alloc answer data_in p
   done_lasts host payload commands.Streaming answer data_in keeps p = untouched_lasts p.untouched.same

@@ -6,6 +6,7 @@ use Rattle.model_cache.specs.declared.TickOut.TheVariants as ticks
 use Rattle.model_cache.specs.Causes.{TickCause}
 use Rattle.model_cache.proofs.Lacking.{tick_lacks}
 use Rattle.ram_report.specs.declared.printing.Event.TheVariants as events
+use Rattle.model_sectors.specs.Requests.{block_with}
 use Rattle.model_fairness.proofs.Calls.{none_left}
 use Rattle.model_target.proofs.Sensed.{step_lacks}
 use Rattle.model_sense.specs.Sense.{sense_at}
@@ -44,7 +45,7 @@ on_disc (Disc s) (Disc t) cdb payload data_in named fair step =
     let lacks = step_lacks s.disc.shown t.disc.shown (λ x. x ≡ s.disc.contents) (λ x. x ≡ t.disc.contents) s.host t.host cdb payload data_in named
     (subst (λ (a : Answer). ExecutesTo s.disc.shown t.disc.shown (λ x. x ≡ s.disc.contents) (λ x. x ≡ t.disc.contents) s.host t.host cdb payload a data_in)
     (checked_outcome cdb (sense_at 0x3 0x32 0x00 named) step.rule.answer step.rule.outcome_is) step.rule.step) in
-    λ lists is spare has replaces. none_left lacks.before t.disc.shown.drive lacks.lba lacks.n named lists fair lacks.lacks is spare has replaces
+    λ lists is spare has replaces. none_left t.disc.shown.drive (block_with named) lists fair lacks.none is spare has replaces
 
 -- the same of a tick
 told_by_tick : (named : ℕ) (out : TickOut) → Ok (replies.Event (events.NoSpare named)) ≡ tick_outcome out → out ≡ ticks.NoSpare named
@@ -62,7 +63,7 @@ tick_on_disc (Disc s) (Unopened image) payload data_in named fair step = absurd 
 tick_on_disc (Disc s) (Disc t) payload data_in named fair step =
     let tick = step.rule.0 in
     let lacks = tick_lacks s.disc.shown t.disc.shown named (subst (λ (o : TickOut). TickCause s.disc.shown t.disc.shown o) (told_by_tick named tick.out tick.outcome_is) tick.cause) in
-    λ lists is spare has replaces. none_left lacks.before t.disc.shown.drive lacks.lba lacks.n named lists fair lacks.lacks is spare has replaces
+    λ lists is spare has replaces. none_left t.disc.shown.drive (block_with named) lists fair lacks.none is spare has replaces
 
 pub none_left_now : (s t : State) (event : AnsweredStep) → FairNow s → IsStep s event t → (named : ℕ) → WasToldNoSpare event named → HasNoSpareLeft t named
 none_left_now s t event fair step named (inl told) =

@@ -1,9 +1,8 @@
 -- What a line of a scrub does to the drive, by its verifications alone: no more than that blocks die, or that the power goes off.
-use Rattle.std.specs.Prelude.{◌≡◌, ℕ, ◌⊎◌, Bool, true, false, None, Ok, Err, List, length}
-use Rattle.std.proofs.Common.{refl, sym, ap, ◌∙◌, inl, inr, subst, arith}
+use Rattle.std.specs.Prelude.{◌≡◌, ℕ, ◌⊎◌, None, Err, length}
+use Rattle.std.proofs.Common.{refl, sym, ◌∙◌, inl, inr, subst}
 use Rattle.std.proofs.lemmas.Bool.{cases_eq}
 use Rattle.model_medium.specs.Cells.{IsSameOrDead, cell_at}
-use Rattle.model_stops.specs.declared.Stop.{Stop}
 use Rattle.model_stops.specs.declared.Stop.TheVariants as stops
 use Rattle.model_sectors.specs.declared.ReadOut.{ReadOut}
 use Rattle.model_sectors.specs.declared.ReadOut.TheVariants as reads
@@ -26,7 +25,6 @@ use Rattle.model_scrub.specs.declared.ends.PassEnd.TheVariants as passes
 use Rattle.model_scrub.specs.Asks.{StepContents, PassContents}
 use Rattle.model_scrub.proofs.Chained.{HoldsOfVerifications, good_leaves, unread_leaves}
 use Rattle.ram_report.specs.declared.printing.Event.TheVariants as events
-use Rattle.ram_machine.specs.declared.reply.Reply.TheVariants as replies
 use Rattle.ram_machine.specs.declared.stopped.Stopped.TheVariants as stopped
 use Rattle.ram_machine.specs.Replies.{Outcome, event, step_outcome, pass_outcome}
 use Rattle.ram_machine.specs.LineSteps.{StepLine, PassLine}

@@ -1,5 +1,5 @@
 -- What a scrub of all blocks told is what cannot be read; and a read meets nothing else.
-use Rattle.std.specs.Prelude.{◌≡◌, ◌↔◌, ℕ, ◌<◌, ◌⊎◌, ◌&&◌, not, Bool, true, false, Option, Some, None, is_some, Result, Ok, Err, List, [], ◌∷◌, length}
+use Rattle.std.specs.Prelude.{◌≡◌, ◌↔◌, ℕ, ◌⊎◌, ◌&&◌, not, Bool, true, false, Option, Some, None, is_some, Result, Ok, Err, List, [], ◌∷◌, length}
 use Rattle.std.specs.List.{Contains, find}
 use Rattle.std.proofs.Common.{refl, sym, ap, ◌∙◌, inl, inr, subst, arith}
 use Rattle.model_commands.specs.declared.Operation.{Operation}
@@ -7,7 +7,6 @@ use Rattle.model_commands.specs.Commands.{operation_of}
 use Rattle.model_sectors.specs.Requests.{block_with}
 use Rattle.model_sectors.specs.declared.ReadOut.{ReadOut}
 use Rattle.model_sectors.specs.declared.ReadOut.TheVariants as reads
-use Rattle.model_drive.specs.Shown.{block_count}
 use Rattle.model_cache.specs.Values.{Contents}
 use Rattle.model_cache.specs.Shown.{CacheShown}
 use Rattle.model_cache.specs.Causes.{CacheReadCause}
@@ -33,7 +32,7 @@ use Rattle.ram_text.specs.declared.script.Line.TheVariants as lines
 use Rattle.ram_machine.specs.declared.reply.Reply.{Reply}
 use Rattle.ram_machine.specs.declared.reply.Reply.TheVariants as replies
 use Rattle.ram_machine.specs.declared.stopped.Stopped.TheVariants as stopped
-use Rattle.ram_machine.specs.Replies.{pass_outcome, command_outcome, event}
+use Rattle.ram_machine.specs.Replies.{pass_outcome, event}
 use Rattle.ram_machine.specs.States.{State, Served, Unopened, Disc}
 use Rattle.ram_machine.specs.LineSteps.{DiscStep, OnDisc, Step}
 use Rattle.ram_machine.specs.Runs.{IsStep}

@@ -1,6 +1,6 @@
 -- What the lines of a run leave of a register, whichever bytes a lost sector has: what a drive shows goes with two of them, and a good
 -- read shows one.
-use Rattle.std.specs.Prelude.{◌≡◌, ℕ, ◌==◌, ◌⊎◌, Bool, true, false, nat_lt, if◌then◌else◌, MatchBool, Option, None, Some, Result, Ok, Err, List, [], ◌∷◌}
+use Rattle.std.specs.Prelude.{◌&&◌, not, ◌≡◌, ℕ, ◌==◌, ◌⊎◌, Bool, true, false, nat_lt, if◌then◌else◌, MatchBool, Option, None, Some, Result, Ok, Err, List, [], ◌∷◌}
 use Rattle.std.specs.List.{Contains}
 use Rattle.std.proofs.Common.{arith, refl, sym, ap, ◌∙◌, inl, inr, subst}
 use Rattle.model_places.specs.Places.{Lists}
@@ -25,7 +25,7 @@ use Rattle.ram_machine.specs.declared.reply.Reply.{Reply}
 use Rattle.ram_machine.specs.declared.reply.Reply.TheVariants as replies
 use Rattle.ram_machine.specs.SectorBytes.{bytes_of_sector, is_sector_among}
 use Rattle.ram_machine.proofs.WrittenDiscs.{SoInBlock, SoInContents}
-use Rattle.ram_machine.specs.Register.{Value, Bytes, Lost, Register, settled, or_else, gone, left_by, left_in, powered, is_midway, goes_through, AfterWrite, AfterFull, AfterRewrite, AfterFormat, AfterGood, AfterOther, AfterCommand, AfterPower, AfterPress, Shows, Turn, synchronised}
+use Rattle.ram_machine.specs.Register.{synchronised_if, Value, Bytes, Lost, Register, settled, or_else, gone, left_by, left_in, powered, is_midway, goes_through, AfterWrite, AfterFull, AfterRewrite, AfterFormat, AfterGood, AfterOther, AfterCommand, AfterPower, AfterPress, Shows, Turn, synchronised}
 use Rattle.ram_machine.proofs.SectorValues.{now_under, falls_under}
 use Rattle.ram_machine.proofs.SectorFilled.{filled, filled_differ}
 use Rattle.ram_machine.proofs.SectorMatching.{Matches, Turned}
@@ -257,7 +257,7 @@ module _ (at : ℕ) (new : CacheShown) (t u : Contents) (stands : CacheStandsFor
     command_both lists (Ok (commands.RequestSense alloc)) payload data_in answer none one other = other_both (commands.RequestSense alloc) r payload data_in answer (λ a is. is) refl one other
     command_both lists (Ok (commands.Expand sectors)) payload data_in answer none one other = other_both (commands.Expand sectors) (if nat_lt at sectors then r else gone r) payload data_in answer (λ a is. is) refl one other
     command_both lists (Ok (commands.Inquiry vital alloc)) payload data_in answer none one other = other_both (commands.Inquiry vital alloc) r payload data_in answer (λ a is. is) refl one other
-    command_both lists (Ok (commands.StartStop start eject)) payload data_in answer none one other = other_both (commands.StartStop start eject) r payload data_in answer (λ a is. is) refl one other
+    command_both lists (Ok (commands.StartStop start eject)) payload data_in answer none one other = other_both (commands.StartStop start eject) (synchronised_if (eject && not start) r) payload data_in answer (λ a is. is) refl one other
     command_both lists (Ok (commands.Prevent on)) payload data_in answer none one other = other_both (commands.Prevent on) r payload data_in answer (λ a is. is) refl one other
     command_both lists (Ok (commands.FormatCapacities alloc)) payload data_in answer none one other = other_both (commands.FormatCapacities alloc) r payload data_in answer (λ a is. is) refl one other
     command_both lists (Ok commands.ReadCapacity) payload data_in answer none one other = other_both commands.ReadCapacity r payload data_in answer (λ a is. is) refl one other
@@ -266,7 +266,7 @@ module _ (at : ℕ) (new : CacheShown) (t u : Contents) (stands : CacheStandsFor
     command_both lists (Ok (commands.Configuration rt start alloc)) payload data_in answer none one other = other_both (commands.Configuration rt start alloc) r payload data_in answer (λ a is. is) refl one other
     command_both lists (Ok (commands.Events media alloc)) payload data_in answer none one other = other_both (commands.Events media alloc) r payload data_in answer (λ a is. is) refl one other
     command_both lists (Ok (commands.DiscInformation alloc)) payload data_in answer none one other = other_both (commands.DiscInformation alloc) r payload data_in answer (λ a is. is) refl one other
-    command_both lists (Ok commands.ModeSelect) payload data_in answer none one other = other_both commands.ModeSelect (record r { caches = caches_after payload r.caches }) payload data_in answer (λ a is. is) refl one other
+    command_both lists (Ok commands.ModeSelect) payload data_in answer none one other = other_both commands.ModeSelect (record (synchronised_if (r.caches && not (caches_after payload r.caches)) r) { caches = caches_after payload r.caches }) payload data_in answer (λ a is. is) refl one other
     command_both lists (Ok (commands.ModeSense short control page alloc)) payload data_in answer none one other = other_both (commands.ModeSense short control page alloc) r payload data_in answer (λ a is. is) refl one other
     command_both lists (Ok (commands.Structure format alloc)) payload data_in answer none one other = other_both (commands.Structure format alloc) r payload data_in answer (λ a is. is) refl one other
     command_both lists (Ok commands.Streaming) payload data_in answer none one other = other_both commands.Streaming r payload data_in answer (λ a is. is) refl one other

@@ -30,15 +30,16 @@ use Rattle.model_cdb.specs.Decoding.{decoded}
 use Rattle.model_drive.specs.declared.Kind.{Kind}
 use Rattle.model_drive.specs.declared.Kind.TheVariants as kinds
 use Rattle.model_target.specs.declared.host.Host.{Host}
+use Rattle.model_target.specs.Host.{is_good}
 use Rattle.model_target.specs.Judging.{IsJudged}
-use Rattle.model_target.specs.Steps.{WrittenCause, WrittenContents, Untouched, IsAnswered, IsRead, IsWritten, IsSelected, IsSynchronised, IsExpanded, IsVerified, TellsStructure, TellsSpares, IsDone, IsAnsweredBy, IsStep as ExecutesTo, read_answer, write_answer, expand_answer, sync_answer, data_read}
+use Rattle.model_target.specs.Steps.{WrittenCause, WrittenContents, Untouched, IsAnswered, IsRead, IsWritten, IsSettled, TurnsOff, SetsCache, IsSynchronised, IsExpanded, IsVerified, TellsStructure, TellsSpares, IsDone, IsAnsweredBy, IsStep as ExecutesTo, read_answer, write_answer, expand_answer, sync_answer, settle_answer, data_read}
 use Rattle.ram_report.specs.ReportLines.{IsPrinted}
 use Rattle.ram_machine.specs.Acknowledged.{IsAmong}
 use Rattle.ram_machine.specs.SectorBytes.{bytes_of_sector, is_sector_among}
 use Rattle.ram_machine.proofs.Acknowledged.{sector_left, write_keeps}
 use Rattle.ram_machine.proofs.Decoded.{HasItsData, asks_for, its_data}
 use Rattle.ram_machine.proofs.WrittenDiscs.{lies, SoInBlock, SoInContents, so_of_block}
-use Rattle.ram_machine.specs.Register.{Value, Bytes, Register, settled, gone, synchronised, left_by, goes_through, is_midway, AfterWrite, AfterGood, AfterOther, AfterCommand}
+use Rattle.ram_machine.specs.Register.{Value, Bytes, Register, settled, gone, synchronised, synchronised_if, left_by, goes_through, is_midway, AfterWrite, AfterGood, AfterOther, AfterCommand}
 use Rattle.ram_machine.proofs.SectorValues.{bytes_under, now_under, falls_under}
 use Rattle.ram_machine.proofs.SectorNow.{now_of, now_in, now_same, some_inside, Stays, here, read_stays, verify_stays, sync_stays, Expanded, expand_now}
 use Rattle.ram_machine.proofs.CacheModes.{SameMode, read_mode, write_mode, sync_mode}
@@ -99,6 +100,66 @@ module _ (lost : List ℕ) (at : ℕ) (lists : Option Lists) (t : Contents) (r :
   CommandUnder (Ok (commands.Format kind)) payload data_in answer after = FormatUnder lists t r kind answer after
   CommandUnder (Ok (commands.Read lba n)) payload data_in answer after = OtherUnder (commands.Read lba n) payload data_in answer after
   CommandUnder asked payload data_in answer after = AfterCommand at r asked payload data_in answer after
+
+-- a synchronisation, and one before an ejection, which is good too on a disc that is not formatted
+module _ (lost : List ℕ) (at : ℕ) (old new : CacheShown) (s t : Contents) (r : Register) (was : Matches lost at old s r) (mode : SameMode old new) where
+  synced_good : (c : Contents) → c ≡ s → SyncContents new (λ x. x ≡ t) c syncs.Good → Turned lost at new t (λ after. after ≡ synchronised r.now r)
+  synced_good (Has v) is step = by_now r.now refl
+    where
+      by_now : (now : Option Value) → r.now ≡ now → Turned lost at new t (λ after. after ≡ synchronised now r)
+      by_now None none =
+          stays lost at old new s t r was mode (sym (ap (now_in at) step) ∙ ap (now_in at) is)
+          (sync_falls (SoInBlock (Contains (falls_under lost r.falls)) at) (block_with at) new (Has v) t syncs.Good step (subst (SoInContents (Contains (falls_under lost r.falls)) at) (sym is) was.falls))
+      by_now (Some value) some =
+          let bytes : List ℕ = bytes_under lost value in
+          let now : now_of at v.disc ≡ Some bytes = ap (now_in at) is ∙ sym was.now ∙ ap (now_under lost) some in
+          settles lost at old new s t r was mode value (sym (ap (now_in at) step) ∙ now)
+          (subst (SoInContents (Contains (bytes ∷ [])) at) step
+          (one (SoInBlock (Contains (bytes ∷ [])) at) (block_with at) (settled_values v.disc)
+          (settled_within (SoInBlock (Contains (bytes ∷ [])) at) (block_with at) v.disc (λ has.
+          so_of_block (Contains (bytes ∷ [])) at v.disc _ refl (subst (Contains (bytes ∷ [])) (sym (some_inside at v.disc bytes now).1) (Contains-first bytes []))))))
+  synced_good (MayHave all) is step = absurd step
+
+  synced_bare : (c : Contents) → c ≡ s → SyncContents new (λ x. x ≡ t) c syncs.NotFormatted → Turned lost at new t (λ after. after ≡ synchronised r.now r)
+  synced_bare (Has v) is step = by_now r.now refl
+    where
+      by_now : (now : Option Value) → r.now ≡ now → Turned lost at new t (λ after. after ≡ synchronised now r)
+      by_now None none =
+          stays lost at old new s t r was mode (sym (ap (now_in at) step.1) ∙ ap (now_in at) is)
+          (sync_falls (SoInBlock (Contains (falls_under lost r.falls)) at) (block_with at) new (Has v) t syncs.NotFormatted step (subst (SoInContents (Contains (falls_under lost r.falls)) at) (sym is) was.falls))
+      by_now (Some value) some =
+          let bytes : List ℕ = bytes_under lost value in
+          let now : now_of at v.disc ≡ Some bytes = ap (now_in at) is ∙ sym was.now ∙ ap (now_under lost) some in
+          let inside : 2048 * (at + 1) ≤ length v.disc = (some_inside at v.disc bytes now).0 in
+          let none : length v.disc ≡ 0 = ap length step.0 in
+          absurd (omega (arith, inside, none))
+  synced_bare (MayHave all) is step = absurd step
+
+  -- what it leaves, by its answer
+  abbrev AfterSettling : Answer → Register → Type 0
+  AfterSettling answers.Good after = after ≡ synchronised r.now r
+  AfterSettling answer after = after ≡ left_by answer r
+
+  left_settling : (answer : Answer) → ¬ (answer ≡ answers.Good) → (after : Register) → after ≡ left_by answer r → AfterSettling answer after
+  left_settling answers.Good bad after is = absurd (bad refl)
+  left_settling (answers.Check why) bad after is = is
+  left_settling answers.Cut bad after is = is
+  left_settling answers.Off bad after is = is
+  left_settling answers.Fault bad after is = is
+
+  settling_other : (out : SyncOut) → ¬ (sync_answer out ≡ answers.Good) → IsPrinted (sync_answer out) → SyncContents new (λ x. x ≡ t) s out → Turned lost at new t (λ after. AfterSettling (sync_answer out) after)
+  settling_other out bad printed step =
+      by_rule lost at new t (λ after. after ≡ left_by (sync_answer out) r) (λ after. AfterSettling (sync_answer out) after) (left_settling (sync_answer out) bad)
+      (leaves lost at old new s t r was mode (sync_answer out) printed (sync_stays at new s t out step) (sync_falls (SoInBlock (Contains (falls_under lost r.falls)) at) (block_with at) new s t out step was.falls))
+
+  settling : (out : SyncOut) → IsPrinted (settle_answer out) → SyncContents new (λ x. x ≡ t) s out → Turned lost at new t (λ after. AfterSettling (settle_answer out) after)
+  settling syncs.Good printed step = synced_good s refl step
+  settling syncs.NotFormatted printed step = synced_bare s refl step
+  settling (syncs.NoSpare lba) printed step = settling_other (syncs.NoSpare lba) (λ is. cc) printed step
+  settling (syncs.NoUpdate counter) printed step = settling_other (syncs.NoUpdate counter) (λ is. cc) printed step
+  settling syncs.Cut printed step = settling_other syncs.Cut (λ is. cc) printed step
+  settling syncs.Off printed step = settling_other syncs.Off (λ is. cc) printed step
+  settling syncs.Fault printed step = absurd printed
 
 module _ (lost : List ℕ) (at : ℕ) (old new : CacheShown) (s t : Contents) (r : Register) (stood : CacheStandsFor old s) (was : Matches lost at old s r) where
   abbrev To : (Register → Type 0) → Type 0
@@ -251,35 +312,17 @@ module _ (lost : List ℕ) (at : ℕ) (old new : CacheShown) (s t : Contents) (r
       (leaves lost at old new s t r was (read_mode old new lba n p.out p.cause) (read_answer p.out) (subst IsPrinted p.answer_is printed)
       (read_stays at s t lba n p.bytes p.out (p.step s refl)) (read_falls (SoInBlock (Contains (falls_under lost r.falls)) at) (block_with at) s t lba n p.bytes p.out (p.step s refl) was.falls))))
 
-  -- a synchronisation
-  sync_good : (c : Contents) → c ≡ s → SyncContents (λ x. x ≡ t) c syncs.Good → SameMode old new → To (λ after. after ≡ synchronised r.now r)
-  sync_good (Has v) is step mode = by_now r.now refl
-    where
-      by_now : (now : Option Value) → r.now ≡ now → To (λ after. after ≡ synchronised now r)
-      by_now None none =
-          stays lost at old new s t r was mode (sym (ap (now_in at) step) ∙ ap (now_in at) is)
-          (sync_falls (SoInBlock (Contains (falls_under lost r.falls)) at) (block_with at) (Has v) t syncs.Good step (subst (SoInContents (Contains (falls_under lost r.falls)) at) (sym is) was.falls))
-      by_now (Some value) some =
-          let bytes : List ℕ = bytes_under lost value in
-          let now : now_of at v.disc ≡ Some bytes = ap (now_in at) is ∙ sym was.now ∙ ap (now_under lost) some in
-          settles lost at old new s t r was mode value (sym (ap (now_in at) step) ∙ now)
-          (subst (SoInContents (Contains (bytes ∷ [])) at) step
-          (one (SoInBlock (Contains (bytes ∷ [])) at) (block_with at) (settled_values v.disc)
-          (settled_within (SoInBlock (Contains (bytes ∷ [])) at) (block_with at) v.disc (λ has.
-          so_of_block (Contains (bytes ∷ [])) at v.disc _ refl (subst (Contains (bytes ∷ [])) (sym (some_inside at v.disc bytes now).1) (Contains-first bytes []))))))
-  sync_good (MayHave all) is step mode = absurd step
-
-  -- by how it went
-  sync_other : (payload data_in : List ℕ) (out : SyncOut) → ¬ (sync_answer out ≡ answers.Good) → IsPrinted (sync_answer out) → SameMode old new → SyncContents (λ x. x ≡ t) s out
+  -- a synchronisation, by how it went
+  sync_other : (payload data_in : List ℕ) (out : SyncOut) → ¬ (sync_answer out ≡ answers.Good) → IsPrinted (sync_answer out) → SameMode old new → SyncContents new (λ x. x ≡ t) s out
       → To (λ after. AfterOther at r commands.Synchronize payload data_in (sync_answer out) after)
   sync_other payload data_in out bad printed mode step =
       by_rule lost at new t (λ after. after ≡ left_by (sync_answer out) r) (λ after. AfterOther at r commands.Synchronize payload data_in (sync_answer out) after)
       (other_left commands.Synchronize payload data_in (sync_answer out) bad)
-      (leaves lost at old new s t r was mode (sync_answer out) printed (sync_stays at s t out step) (sync_falls (SoInBlock (Contains (falls_under lost r.falls)) at) (block_with at) s t out step was.falls))
+      (leaves lost at old new s t r was mode (sync_answer out) printed (sync_stays at new s t out step) (sync_falls (SoInBlock (Contains (falls_under lost r.falls)) at) (block_with at) new s t out step was.falls))
 
-  sync_out : (payload data_in : List ℕ) (out : SyncOut) → IsPrinted (sync_answer out) → SameMode old new → SyncContents (λ x. x ≡ t) s out
+  sync_out : (payload data_in : List ℕ) (out : SyncOut) → IsPrinted (sync_answer out) → SameMode old new → SyncContents new (λ x. x ≡ t) s out
       → To (λ after. AfterOther at r commands.Synchronize payload data_in (sync_answer out) after)
-  sync_out payload data_in syncs.Good printed mode step = sync_good s refl step mode
+  sync_out payload data_in syncs.Good printed mode step = synced_good lost at old new s t r was mode s refl step
   sync_out payload data_in syncs.NotFormatted printed mode step = sync_other payload data_in syncs.NotFormatted (λ is. cc) printed mode step
   sync_out payload data_in (syncs.NoSpare lba) printed mode step = sync_other payload data_in (syncs.NoSpare lba) (λ is. cc) printed mode step
   sync_out payload data_in (syncs.NoUpdate counter) printed mode step = sync_other payload data_in (syncs.NoUpdate counter) (λ is. cc) printed mode step
@@ -375,17 +418,73 @@ module _ (lost : List ℕ) (at : ℕ) (old new : CacheShown) (s t : Contents) (r
           (write_stays lba n payload whole (is_apart lba n at is) fua s p.out stood p.cause (p.step s refl))
           (write_keeps (Contains (falls_under lost r.falls)) at old new s t lba n fua payload p.out stood whole (is_apart lba n at is) p.cause (p.step s refl) was.falls)
 
+  -- an ejection
+  start_turn : (start eject : Bool) (payload data_in : List ℕ) (answer : Answer) → IsPrinted answer → (ejected : Bool) → eject && not start ≡ ejected
+      → MatchBool ejected (IsSettled old new (λ x. x ≡ s) (λ x. x ≡ t) answer data_in) (IsAnswered old new (λ x. x ≡ s) (λ x. x ≡ t) answer answers.Good data_in [])
+      → To (λ after. AfterOther at r (commands.StartStop start eject) payload data_in answer after)
+  start_turn start eject payload data_in answer printed true is p =
+      subst (λ (a : Answer). To (λ after. AfterOther at r (commands.StartStop start eject) payload data_in a after)) (sym p.answer_is)
+      (by_rule lost at new t (λ after. AfterSettling lost at old new s t r was mode (settle_answer p.out) after) (λ after. AfterOther at r (commands.StartStop start eject) payload data_in (settle_answer p.out) after)
+      (ejects (settle_answer p.out))
+      (settling lost at old new s t r was mode p.out (subst IsPrinted p.answer_is printed) (p.step s refl)))
+    where
+      mode : SameMode old new
+      mode = sync_mode old new p.out p.cause
+
+      ejects : (a : Answer) (after : Register) → AfterSettling lost at old new s t r was mode a after → AfterOther at r (commands.StartStop start eject) payload data_in a after
+      ejects answers.Good after settled = settled ∙ ap (λ (b : Bool). synchronised_if b r) (sym is)
+      ejects (answers.Check why) after settled = settled
+      ejects answers.Cut after settled = settled
+      ejects answers.Off after settled = settled
+      ejects answers.Fault after settled = settled
+  start_turn start eject payload data_in answer printed false is p =
+      told (commands.StartStop start eject) payload data_in _ answer (ap (λ (b : Bool). synchronised_if b r) (sym is)) p
+
   -- a list of mode pages
-  select_turn : (payload data_in : List ℕ) (answer : Answer) → IsSelected old new (λ x. x ≡ s) (λ x. x ≡ t) payload answer data_in → To (λ after. AfterOther at r commands.ModeSelect payload data_in answer after)
-  select_turn payload data_in answer p =
-      subst (λ (a : Answer). To (λ after. AfterOther at r commands.ModeSelect payload data_in a after)) (sym p.answer_is) (record {
-        after = record r { caches = caches_after payload r.caches };
-        rule = refl;
+  select_turn : (payload data_in : List ℕ) (answer : Answer) → IsPrinted answer → (off : Bool) → old.caches && not (caches_after payload old.caches) ≡ off
+      → MatchBool off (TurnsOff old new (λ x. x ≡ s) (λ x. x ≡ t) answer data_in) (SetsCache old new (λ x. x ≡ s) (λ x. x ≡ t) payload answer data_in)
+      → To (λ after. AfterOther at r commands.ModeSelect payload data_in answer after)
+  select_turn payload data_in answer printed true off p =
+      subst (λ (a : Answer). To (λ after. AfterOther at r commands.ModeSelect payload data_in a after)) (sym p.answer_is)
+      (turned (settle_answer p.out) (p.new_is ∙ ap (λ (a : Answer). if is_good a then record p.mid { caches = false } else p.mid) p.answer_is)
+      (settling lost at old p.mid s t r was mode p.out (subst IsPrinted p.answer_is printed) (p.step s refl)))
+    where
+      mode : SameMode old p.mid
+      mode = sync_mode old p.mid p.out p.cause
+
+      first : r.caches && not (caches_after payload r.caches) ≡ true
+      first = ap (λ (b : Bool). b && not (caches_after payload b)) was.caches ∙ off
+
+      turned_off : (a b : Bool) → a && not b ≡ true → b ≡ false
+      turned_off true true e = absurd cc
+      turned_off true false e = refl
+      turned_off false b e = absurd cc
+
+      turned : (a : Answer) → new ≡ (if is_good a then record p.mid { caches = false } else p.mid) → Turned lost at p.mid t (λ after. AfterSettling lost at old p.mid s t r was mode a after)
+          → To (λ after. AfterOther at r commands.ModeSelect payload data_in a after)
+      turned answers.Good is was_turned = record {
+        after = record was_turned.after { caches = caches_after payload r.caches };
+        rule = ap (λ (x : Register). record x { caches = caches_after payload r.caches }) (was_turned.rule ∙ ap (λ (b : Bool). synchronised_if b r) (sym first));
         matches = record {
-          now = was.now ∙ sym (here at s t (p.stands s refl));
-          falls = subst (SoInContents (Contains (falls_under lost r.falls)) at) (p.stands s refl) was.falls;
-          caches = ap (caches_after payload) was.caches ∙ sym (ap (λ (x : CacheShown). x.caches) p.mode);
+          now = was_turned.matches.now;
+          falls = was_turned.matches.falls;
+          caches = turned_off r.caches (caches_after payload r.caches) first ∙ sym (ap (λ (x : CacheShown). x.caches) is);
         };
+      }
+      turned (answers.Check why) is was_turned = subst (λ (x : CacheShown). Turned lost at x t (λ after. after ≡ left_by (answers.Check why) r)) (sym is) was_turned
+      turned answers.Cut is was_turned = subst (λ (x : CacheShown). Turned lost at x t (λ after. after ≡ left_by answers.Cut r)) (sym is) was_turned
+      turned answers.Off is was_turned = subst (λ (x : CacheShown). Turned lost at x t (λ after. after ≡ left_by answers.Off r)) (sym is) was_turned
+      turned answers.Fault is was_turned = subst (λ (x : CacheShown). Turned lost at x t (λ after. after ≡ left_by answers.Fault r)) (sym is) was_turned
+  select_turn payload data_in answer printed false off p =
+      subst (λ (a : Answer). To (λ after. AfterOther at r commands.ModeSelect payload data_in a after)) (sym p.answer_is) (record {
+        after = record (synchronised_if (r.caches && not (caches_after payload r.caches)) r) { caches = caches_after payload r.caches };
+        rule = refl;
+        matches = subst (λ (b : Bool). Matches lost at new t (record (synchronised_if b r) { caches = caches_after payload r.caches }))
+            (sym (ap (λ (b : Bool). b && not (caches_after payload b)) was.caches ∙ off)) (record {
+              now = was.now ∙ sym (here at s t (p.stands s refl));
+              falls = subst (SoInContents (Contains (falls_under lost r.falls)) at) (p.stands s refl) was.falls;
+              caches = ap (caches_after payload) was.caches ∙ sym (ap (λ (x : CacheShown). x.caches) p.mode);
+            });
       })
 
   -- a verification
@@ -414,7 +513,7 @@ module _ (lost : List ℕ) (at : ℕ) (old new : CacheShown) (s t : Contents) (r
       (format_turn lost at old new t r p.cause.2 s kind p.out stood was (subst IsPrinted p.answer_is printed) (p.step s refl))
   done_turn host payload data_in (commands.Expand sectors) answer printed given p = expand_turn sectors payload data_in answer printed p
   done_turn host payload data_in (commands.Inquiry vital alloc) answer printed given p = told (commands.Inquiry vital alloc) payload data_in _ answer refl p
-  done_turn host payload data_in (commands.StartStop start eject) answer printed given p = told (commands.StartStop start eject) payload data_in _ answer refl p
+  done_turn host payload data_in (commands.StartStop start eject) answer printed given p = start_turn start eject payload data_in answer printed (eject && not start) refl p
   done_turn host payload data_in (commands.Prevent on) answer printed given p = told (commands.Prevent on) payload data_in _ answer refl p
   done_turn host payload data_in (commands.FormatCapacities alloc) answer printed given p = told (commands.FormatCapacities alloc) payload data_in _ answer refl p
   done_turn host payload data_in commands.ReadCapacity answer printed given p = told commands.ReadCapacity payload data_in _ answer refl p
@@ -425,7 +524,7 @@ module _ (lost : List ℕ) (at : ℕ) (old new : CacheShown) (s t : Contents) (r
   done_turn host payload data_in (commands.Configuration rt start alloc) answer printed given p = told (commands.Configuration rt start alloc) payload data_in _ answer refl p
   done_turn host payload data_in (commands.Events media alloc) answer printed given p = told (commands.Events media alloc) payload data_in _ answer refl p
   done_turn host payload data_in (commands.DiscInformation alloc) answer printed given p = told (commands.DiscInformation alloc) payload data_in _ answer refl p
-  done_turn host payload data_in commands.ModeSelect answer printed given p = select_turn payload data_in answer p
+  done_turn host payload data_in commands.ModeSelect answer printed given p = select_turn payload data_in answer printed (old.caches && not (caches_after payload old.caches)) refl p
   done_turn host payload data_in (commands.ModeSense short control page alloc) answer printed given p = told (commands.ModeSense short control page alloc) payload data_in _ answer refl p
   done_turn host payload data_in commands.Streaming answer printed given p = told commands.Streaming payload data_in _ answer refl p
   done_turn host payload data_in (commands.Structure format alloc) answer printed given p = structure (format == 0x08) p

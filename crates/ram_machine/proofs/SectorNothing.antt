@@ -1,5 +1,5 @@
 -- What a register may show over lines: what it had at first, zeros, and what writes of the sector sent: from the register alone.
-use Rattle.std.specs.Prelude.{◌≡◌, ℕ, ◌==◌, ◌⊎◌, Bool, true, false, nat_lt, if◌then◌else◌, MatchBool, Option, None, Some, Result, Ok, Err, List, [], ◌∷◌}
+use Rattle.std.specs.Prelude.{◌&&◌, not, ◌≡◌, ℕ, ◌==◌, ◌⊎◌, Bool, true, false, nat_lt, if◌then◌else◌, MatchBool, Option, None, Some, Result, Ok, Err, List, [], ◌∷◌}
 use Rattle.std.specs.List.{Contains}
 use Rattle.std.proofs.Common.{refl, sym, ◌∙◌, inl, inr, subst}
 use Rattle.model_modes.specs.ParameterLists.{caches_after}
@@ -21,7 +21,7 @@ use Rattle.ram_machine.specs.SectorBytes.{bytes_of_sector, is_sector_among}
 use Rattle.model_drive.specs.declared.Kind.{Kind}
 use Rattle.model_drive.specs.declared.Kind.TheVariants as kinds
 use Rattle.model_sectors.specs.Discs.{zeros}
-use Rattle.ram_machine.specs.Register.{or_else, is_midway, AfterFull, AfterRewrite, AfterFormat, Value, Bytes, Lost, bytes_in, Register, settled, gone, powered, synchronised, left_by, left_in, goes_through, AfterWrite, AfterGood, AfterOther, AfterCommand, AfterPower, AfterPress, Turn, Turns}
+use Rattle.ram_machine.specs.Register.{synchronised_if, or_else, is_midway, AfterFull, AfterRewrite, AfterFormat, Value, Bytes, Lost, bytes_in, Register, settled, gone, powered, synchronised, left_by, left_in, goes_through, AfterWrite, AfterGood, AfterOther, AfterCommand, AfterPower, AfterPress, Turn, Turns}
 
 -- the bytes of a value are among these
 abbrev pub IsIn : List (List ℕ) → Value → Type 0
@@ -190,6 +190,10 @@ module _ (at : ℕ) where
   by_sync choices None r is has = has
   by_sync choices (Some value) r is has = is_settled choices r value (has.shows value is) has
 
+  by_sync_if : (choices : List (List ℕ)) (first : Bool) (r : Register) → Among r choices → Among (synchronised_if first r) choices
+  by_sync_if choices true r has = by_sync choices r.now r refl has
+  by_sync_if choices false r has = has
+
   by_test : (choices : List (List ℕ)) (r after : Register) (b : Bool) → after ≡ (if b then r else gone r) → Among r choices → Among after choices
   by_test choices r after true is has = carried choices r after is has
   by_test choices r after false is has = carried choices (gone r) after is (is_gone choices r has)
@@ -198,8 +202,11 @@ module _ (at : ℕ) where
   by_good choices r after (commands.Read lba n) payload data_in is has = carried choices r after is.1 has
   by_good choices r after commands.Synchronize payload data_in is has = carried choices (synchronised r.now r) after is (by_sync choices r.now r refl has)
   by_good choices r after (commands.Expand sectors) payload data_in is has = by_test choices r after (nat_lt at sectors) is has
+  by_good choices r after (commands.StartStop start eject) payload data_in is has = carried choices (synchronised_if (eject && not start) r) after is (by_sync_if choices (eject && not start) r has)
   by_good choices r after commands.ModeSelect payload data_in is has =
-      carried choices (record r { caches = caches_after payload r.caches }) after is (record { zero = has.zero; shows = has.shows; falls = has.falls })
+      let first = by_sync_if choices (r.caches && not (caches_after payload r.caches)) r has in
+      carried choices (record (synchronised_if (r.caches && not (caches_after payload r.caches)) r) { caches = caches_after payload r.caches }) after is
+      (record { zero = first.zero; shows = first.shows; falls = first.falls })
   by_good choices r after _ payload data_in is has = carried choices r after is has
 
   by_other : (choices : List (List ℕ)) (r after : Register) (asked : Command) (payload data_in : List ℕ) (answer : Answer) → AfterOther at r asked payload data_in answer after → Among r choices → Among after choices

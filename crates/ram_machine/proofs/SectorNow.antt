@@ -12,7 +12,8 @@ use Rattle.model_cache.specs.declared.SyncOut.{SyncOut}
 use Rattle.model_cache.specs.declared.SyncOut.TheVariants as syncs
 use Rattle.model_cache.specs.declared.TickOut.{TickOut}
 use Rattle.model_cache.specs.declared.TickOut.TheVariants as ticks
-use Rattle.model_cache.specs.Values.{Contents, Has, MayHave, settled_values}
+use Rattle.model_cache.specs.Values.{Contents, Has, MayHave, settled_values, settled_but}
+use Rattle.model_cache.specs.Shown.{CacheShown}
 use Rattle.model_cache.specs.Steps.{ReadContents, VerifyContents, ExpandContents, SyncContents, TickContents}
 use Rattle.model_sense.specs.declared.answer.Answer.{Answer}
 use Rattle.model_sense.specs.declared.answer.Answer.TheVariants as answers
@@ -96,16 +97,16 @@ module _ (at : ℕ) where
   verify_stays (MayHave all) t reads.Off step = here (MayHave all) t step
   verify_stays (MayHave all) t _ step = absurd step
 
-  pub sync_stays : (s t : Contents) (out : SyncOut) → SyncContents (λ x. x ≡ t) s out → Stays (sync_answer out) s t
-  sync_stays (Has v) t syncs.Good step = here (Has (settled_values v.disc)) t step
-  sync_stays (Has v) t syncs.NotFormatted step = here (Has v) t step.1
-  sync_stays (Has v) t (syncs.NoSpare lba) step = here (Has v) t step
-  sync_stays (Has v) t (syncs.NoUpdate counter) step = here (Has v) t step
-  sync_stays (Has v) t syncs.Cut step = sym (ap (now_in at) step)
-  sync_stays (Has v) t syncs.Off step = absurd step
-  sync_stays (Has v) t syncs.Fault step = tt
-  sync_stays (MayHave all) t syncs.Off step = here (MayHave all) t step
-  sync_stays (MayHave all) t _ step = absurd step
+  pub sync_stays : (new : CacheShown) (s t : Contents) (out : SyncOut) → SyncContents new (λ x. x ≡ t) s out → Stays (sync_answer out) s t
+  sync_stays new (Has v) t syncs.Good step = here (Has (settled_values v.disc)) t step
+  sync_stays new (Has v) t syncs.NotFormatted step = here (Has v) t step.1
+  sync_stays new (Has v) t (syncs.NoSpare lba) step = here (Has (settled_but new.pending v)) t step
+  sync_stays new (Has v) t (syncs.NoUpdate counter) step = here (Has (settled_but new.pending v)) t step
+  sync_stays new (Has v) t syncs.Cut step = sym (ap (now_in at) step)
+  sync_stays new (Has v) t syncs.Off step = absurd step
+  sync_stays new (Has v) t syncs.Fault step = tt
+  sync_stays new (MayHave all) t syncs.Off step = here (MayHave all) t step
+  sync_stays new (MayHave all) t _ step = absurd step
 
   pub tick_stays : (s t : Contents) (out : TickOut) → TickContents (λ x. x ≡ t) s out → Stays (tick_answer out) s t
   tick_stays (Has v) t ticks.Idle step = here (Has v) t step

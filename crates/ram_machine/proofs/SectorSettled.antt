@@ -20,7 +20,7 @@ use Rattle.ram_machine.specs.declared.reply.Reply.TheVariants as replies
 use Rattle.ram_machine.specs.Answered.{AnsweredStep}
 use Rattle.ram_machine.specs.Acknowledged.{WasDone, LeavesAsDecoded, LeavesSector, LeaveSector}
 use Rattle.ram_machine.specs.SectorBytes.{bytes_of_sector, is_sector_among}
-use Rattle.ram_machine.specs.Register.{Value, Bytes, Register, settled, gone, powered, synchronised, left_by, left_in, goes_through, AfterWrite, AfterGood, AfterOther, AfterCommand, AfterPower, AfterPress, Turn, Turns, HasSettled}
+use Rattle.ram_machine.specs.Register.{synchronised_if, Value, Bytes, Register, settled, gone, powered, synchronised, left_by, left_in, goes_through, AfterWrite, AfterGood, AfterOther, AfterCommand, AfterPower, AfterPress, Turn, Turns, HasSettled}
 
 module _ (at : ℕ) (bytes : List ℕ) where
   abbrev Has : Register → Type 0
@@ -71,6 +71,10 @@ module _ (at : ℕ) (bytes : List ℕ) where
   by_sync r None is has = has
   by_sync r (Some now) is has = now_them now r r.caches (has.shows now is)
 
+  by_sync_if : (r : Register) (first : Bool) → Has r → Has (synchronised_if first r)
+  by_sync_if r true has = by_sync r r.now refl has
+  by_sync_if r false has = has
+
   by_test : (r after : Register) (b : Bool) → after ≡ (if b then r else gone r) → Has r → Has after
   by_test r after true is has = carried r after is has
   by_test r after false is has = carried (gone r) after is (is_gone r has)
@@ -96,7 +100,10 @@ module _ (at : ℕ) (bytes : List ℕ) where
   by_good r after (commands.Read lba n) payload data_in is has = carried r after is.1 has
   by_good r after commands.Synchronize payload data_in is has = carried (synchronised r.now r) after is (by_sync r r.now refl has)
   by_good r after (commands.Expand sectors) payload data_in is has = by_test r after (nat_lt at sectors) is has
-  by_good r after commands.ModeSelect payload data_in is has = carried (record r { caches = caches_after payload r.caches }) after is (record { shows = has.shows; falls = has.falls })
+  by_good r after (commands.StartStop start eject) payload data_in is has = carried (synchronised_if (eject && not start) r) after is (by_sync_if r (eject && not start) has)
+  by_good r after commands.ModeSelect payload data_in is has =
+      let first = by_sync_if r (r.caches && not (caches_after payload r.caches)) has in
+      carried (record (synchronised_if (r.caches && not (caches_after payload r.caches)) r) { caches = caches_after payload r.caches }) after is (record { shows = first.shows; falls = first.falls })
   by_good r after _ payload data_in is has = carried r after is has
 
   by_other : (r after : Register) (asked : Command) (payload data_in : List ℕ) (answer : Answer) → AfterOther at r asked payload data_in answer after → Has r → Has after

@@ -1,6 +1,6 @@
 -- After a synchronisation that was answered Good the image has each block that was pending, in its home; after a tick the one that it
 -- wrote.
-use Rattle.std.specs.Prelude.{◌≡◌, ℕ, ◌+◌, ◌*◌, ◌<◌, ◌≤◌, ◌==◌, true, false, not, Ok, Option, Some, None, List, [], length}
+use Rattle.std.specs.Prelude.{◌≡◌, ℕ, ◌+◌, ◌*◌, ◌<◌, ◌≤◌, ◌==◌, true, false, not, Ok, Option, Some, None, List, [], ◌∷◌, length}
 use Rattle.std.specs.Option.{option_map_or}
 use Rattle.std.specs.List.{Contains}
 use Rattle.std.proofs.Common.{arith, refl, sym, ap, ◌∙◌, inl, inr, subst}
@@ -18,7 +18,10 @@ use Rattle.model_cache.specs.declared.TickOut.TheVariants as ticks
 use Rattle.model_cache.specs.Values.{Values, Contents, Has, MayHave, HasBlock, HasValue, IsPending, settled_values}
 use Rattle.model_cache.specs.Shown.{CacheShown, CacheStandsFor, dropped, pending_but}
 use Rattle.model_cache.specs.Chains.{Flushes}
-use Rattle.model_cache.specs.Causes.{SyncCause, TickCause, FlushesOldest}
+use Rattle.model_cache.specs.Drains.{DrainCause}
+use Rattle.model_drive.specs.declared.WriteOut.TheVariants as writes
+use Rattle.model_cache.specs.Causes.{SyncCause, TickCause, TickCauseOf}
+use Rattle.model_cache.proofs.FlushedHomes.{all_flushed}
 use Rattle.model_cache.specs.Steps.{SyncContents, TickContents}
 use Rattle.model_cache.proofs.FlushedHomes.{flushed_good, synced_good}
 use Rattle.model_cache.proofs.Members.{Contains-none, Contains-passed}
@@ -88,7 +91,7 @@ module _ (i : ℕ) (bytes : List ℕ) (s t : Served) (has : Contains {X = ℕ ×
             (home_by t.disc.shown.drive t.disc.shown.drive.lists d' i refl after.1.2 there' good);
       }
 
-  contents_synced : (c : Contents) → c ≡ s.disc.contents → SyncContents (λ x. x ≡ t.disc.contents) c syncs.Good → (v : Values) × (Has v ≡ s.disc.contents) × HasItNow v
+  contents_synced : (c : Contents) → c ≡ s.disc.contents → SyncContents t.disc.shown (λ x. x ≡ t.disc.contents) c syncs.Good → (v : Values) × (Has v ≡ s.disc.contents) × HasItNow v
   contents_synced (Has v) is step = (
     v,
     is,
@@ -96,7 +99,7 @@ module _ (i : ℕ) (bytes : List ℕ) (s t : Served) (has : Contains {X = ℕ ×
   )
   contents_synced (MayHave all) is step = absurd step
 
-  module _ (image : List ℕ) (left : IsLeft (Disc t) image) (step : SyncContents (λ x. x ≡ t.disc.contents) s.disc.contents syncs.Good) where
+  module _ (image : List ℕ) (left : IsLeft (Disc t) image) (step : SyncContents t.disc.shown (λ x. x ≡ t.disc.contents) s.disc.contents syncs.Good) where
     block_synced : HasBlockInImage (Disc t) image i bytes
     block_synced =
         subst (λ (cells : List Cell). HasHomeInCells t.disc.shown.drive cells i bytes) (sym (image_left t image left).cells_are)
@@ -155,12 +158,18 @@ written_tick i ticks.Fault is = absurd cc
 same_number : (i j : ℕ) → 16 * i ≡ 16 * j → j ≡ i
 same_number i j same = omega (arith, same)
 
+-- a drain of one block that was good flushed it
+flushed_one : (old new : CacheShown) (block : ℕ) → DrainCause old new (block ∷ []) 1 writes.Good → Flushes old new block
+flushed_one old new block p =
+    let all = all_flushed (block ∷ []) 1 old new p.0 (omega arith) p.1 in
+    subst (λ (s : CacheShown). Flushes old s block) (sym all.2) all.1
+
 tick_wrote : (old new : CacheShown) (s t : Contents) (host later : Host) (i : ℕ) → TickLine old new (λ x. x ≡ s) (λ x. x ≡ t) host later (Ok (replies.Event (events.Written (16 * i)))) → WroteBlock old new s t i
 tick_wrote old new s t host later i p =
     let is = written_tick i p.out p.outcome_is in
-    let cause : FlushesOldest (dropped old) new (16 * i) = subst (TickCause old new) is p.cause in
+    let cause : TickCauseOf (dropped old) new (ticks.Written (16 * i)) = subst (TickCause old new) is p.cause in
     record {
-      flushed = subst (Flushes (dropped old) new) (same_number i cause.block cause.lba_is) cause.flushed;
+      flushed = subst (Flushes (dropped old) new) (same_number i cause.0.block cause.1) (flushed_one (dropped old) new cause.0.block cause.0.drained);
       step = subst (λ (o : TickOut). TickContents (λ x. x ≡ t) s o) is (p.step s refl);
     }
 

@@ -52,6 +52,10 @@ abbrev pub synchronised : Option Value → Register → Register
 synchronised None r = r
 synchronised (Some value) r = settled r value
 
+-- the same where the disc is synchronised first
+abbrev pub synchronised_if : Bool → Register → Register
+synchronised_if first r = if first then synchronised r.now r else r
+
 -- A write goes through the write cache: with FUA, where the cache is off, and where it covers many blocks of 16 sectors.
 abbrev pub goes_through : Register → (lba n : ℕ) → (fua : Bool) → Bool
 goes_through r lba n fua = fua || not (r.caches && nat_lt (blocks_covered lba n) (CACHED_AT_ONCE + 1))
@@ -97,13 +101,16 @@ pub record Shows (at : ℕ) (r : Register) (lba n : ℕ) (data_in : List ℕ) : 
   pub whole : length data_in ≡ 2048 * n
   pub shown : is_sector_among lba n at ≡ true → r.now ≡ Some (Bytes (bytes_of_sector lba data_in at))
 
--- A command that was answered Good, but a write and a format: a read, a synchronisation, an expansion to n sectors, and a list
--- of mode pages, which may turn the cache on or off.
+-- A command that was answered Good, but a write and a format: a read, a synchronisation, an expansion to n sectors, an ejection, and
+-- a list of mode pages, which may turn the cache on or off. Before an ejection, and before the cache is turned off, the disc is
+-- synchronised.
 abbrev pub AfterGood : (at : ℕ) → Register → Command → (payload data_in : List ℕ) → Register → Type 0
 AfterGood at r (commands.Read lba n) payload data_in after = Shows at r lba n data_in × (after ≡ r)
 AfterGood at r commands.Synchronize payload data_in after = after ≡ synchronised r.now r
 AfterGood at r (commands.Expand sectors) payload data_in after = after ≡ (if nat_lt at sectors then r else gone r)
-AfterGood at r commands.ModeSelect payload data_in after = after ≡ record r { caches = caches_after payload r.caches }
+AfterGood at r (commands.StartStop start eject) payload data_in after = after ≡ synchronised_if (eject && not start) r
+AfterGood at r commands.ModeSelect payload data_in after =
+    after ≡ record (synchronised_if (r.caches && not (caches_after payload r.caches)) r) { caches = caches_after payload r.caches }
 AfterGood at r _ payload data_in after = after ≡ r
 
 -- the same, by its answer

@@ -19,7 +19,8 @@
 //! - READ(10), READ(12): a read of the disc: its sectors are the data.
 //! - WRITE(10), WRITE(12): a write of the drive: into its cache, where that is on; with FUA through it.
 //! - WRITE AND VERIFY(10): a write through the cache.
-//! - SYNCHRONIZE CACHE: a synchronisation of the drive: all pending blocks are written.
+//! - SYNCHRONIZE CACHE: a synchronisation of the drive: all pending blocks are written. So it is before an ejection, and before MODE
+//!   SELECT turns the write cache off: where it is refused the disc stays in, and the cache on.
 //! - MODE SELECT(10): the write cache is turned on or off, or left as it was.
 //! - VERIFY(10): a verification of the disc: each block is read from its home, and no data are given.
 //! - FORMAT UNIT: a format of the disc, or an expansion of its spares, by the type in its list.

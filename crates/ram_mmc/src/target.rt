@@ -5,7 +5,7 @@ ghost use Rattle.model_commands.specs.declared.TheConstants.{TRANSFER_LIMIT};
 ghost use Rattle.model_commands.specs.Commands.{operation_of};
 ghost use Rattle.model_drive.specs.Shown.{IsOn, capacity};
 ghost use Rattle.model_cdb.specs.Decoding.{IsWithinLimits};
-ghost use Rattle.model_target.specs.Host.{powered_on, done_by, kept_after, attention_after};
+ghost use Rattle.model_target.specs.Host.{powered_on, is_good, done_by, kept_after, attention_after};
 ghost use Rattle.model_target.specs.Steps.{IsDone, IsAnsweredBy, IsExecuted, IsStep, IsPoweredAgain, host_after};
 ghost use Rattle.ram_mmc.specs.Looks.{CanBeDone, DiscLookRule, IsFormattedAs};
 
@@ -13,7 +13,7 @@ use crate::features::Wanted;
 use crate::judging::{is_told, judge};
 use crate::replies::{capacity_reply, reply, reply_events, reply_inquiry, sense_told};
 use crate::telling::{tell_capacities, tell_configuration, tell_disc, tell_structure};
-use crate::transfers::{expand, format, read, select, synchronize, verify, write};
+use crate::transfers::{expand, format, read, select, settle, synchronize, verify, write};
 use model_commands::Operation;
 use model_target::Host;
 use ram_bytes::{Block, Cdb};
@@ -136,6 +136,8 @@ impl<D: Caching> Target<D> {
     ///   `Caching::write` else. (`write_answer`, `IsWritten`)
     /// - `Check` of a synchronisation: 3/32/00 with the sector for `NoSpare`, 3/32/01 for `NoUpdate`. Then: as after that answer
     ///   of `Caching::synchronize`. (`sync_answer`, `IsSynchronised`)
+    /// - `Check` of an ejection, or of a list of mode pages that turns the cache off: as that of a synchronisation. Then: as after that
+    ///   answer of `Caching::synchronize`; the disc stays in, and the cache on. (`settle_answer`, `IsSettled`, `TurnsOff`)
     /// - `Check` of a format: 3/31/01 for `TooMany` and `NoUpdate`. Then: as after that answer of `Caching::format`.
     ///   (`format_answer`, `IsFormatted`)
     /// - `Check` of an expansion: 5/26/00 for `Refused`, 3/32/01 for `NoUpdate`. Then: as after that answer of `Caching::expand`.
@@ -257,6 +259,10 @@ impl<D: Caching> Target<D> {
             Command::Expand { capacity } => return expand(&mut self.disc, capacity),
             Command::Synchronize => return synchronize(&mut self.disc),
             Command::ModeSelect => return select(&mut self.disc, payload),
+            Command::StartStop {
+                start: false,
+                eject: true,
+            } => return settle(&mut self.disc),
             Command::RequestSense { alloc } => {
                 reply(data_in, &sense_told(&self.host).to_bytes(), alloc)
             }
@@ -330,7 +336,8 @@ fn host_after(
     ensures { result ≡ host_after host operation judged answer }
 {
     let done = match judged {
-        Ok(command) => done_by(command, host),
+        Ok(command) if is_good(answer) => done_by(command, host),
+        Ok(_) => host,
         Err(_) => Host {
             attention: attention_after(host, operation),
             ..host
@@ -340,6 +347,13 @@ fn host_after(
         kept: kept_after(host.kept, answer),
         ..done
     }
+}
+
+/// Whether a command was done.
+fn is_good(answer: Answer) -> bool
+    ensures { result ≡ is_good answer }
+{
+    matches!(answer, Answer::Good)
 }
 
 /// What a command that is done changes.

@@ -3,8 +3,8 @@
 ghost use Rattle.std.specs.Prelude.{◌≡◌, ◌*◌, ◌≤◌, [], length, vec_capacity};
 ghost use Rattle.model_commands.specs.declared.TheConstants.{TRANSFER_LIMIT};
 ghost use Rattle.ram_sectors.specs.declared.TheConstants.{VERIFY_LIMIT};
-ghost use Rattle.model_modes.specs.ParameterLists.{IsTakenList};
-ghost use Rattle.model_target.specs.Steps.{read_answer, write_answer, format_answer, expand_answer, sync_answer, IsRead, IsWritten, IsFormatted, IsExpanded, IsVerified, IsSynchronised, IsSelected};
+ghost use Rattle.model_modes.specs.ParameterLists.{IsTakenList, caches_after};
+ghost use Rattle.model_target.specs.Steps.{read_answer, write_answer, format_answer, expand_answer, sync_answer, settle_answer, IsRead, IsWritten, IsFormatted, IsExpanded, IsVerified, IsSynchronised, IsSettled, IsSelected, TurnsOff};
 
 use ram_bytes::SECTOR_BYTES;
 use ram_modes::Modes;
@@ -96,7 +96,34 @@ pub fn synchronize<D: Caching>(disc: &mut D) -> Answer
     sync_answer(disc.synchronize())
 }
 
-/// Turns the write cache on or off, as a list of mode pages says that is taken.
+/// The same before the disc is taken out, or the write cache turned off. Of a disc that is not formatted there is nothing to write.
+pub fn settle<D: Caching>(disc: &mut D) -> Answer
+    ensures rule { IsSettled (D.shows disc.old) (D.shows disc.new) (D.stands disc.old) (D.stands disc.new)
+        result [] }
+    ensures same_shape { (D.shows disc.new).drive.shape ≡ (D.shows disc.old).drive.shape }
+    ensures underwent { D.underwent disc.old disc.new }
+{
+    settle_answer(disc.synchronize())
+}
+
+/// Turns the write cache off, once nothing is pending.
+fn turn_off<D: Caching>(disc: &mut D) -> Answer
+    ensures rule { TurnsOff (D.shows disc.old) (D.shows disc.new) (D.stands disc.old) (D.stands disc.new)
+        result [] }
+    ensures same_shape { (D.shows disc.new).drive.shape ≡ (D.shows disc.old).drive.shape }
+    ensures underwent { D.underwent disc.old disc.new }
+{
+    match settle_answer(disc.synchronize()) {
+        Answer::Good => {
+            disc.write_cache(false);
+            Answer::Good
+        }
+        refused => refused,
+    }
+}
+
+/// Turns the write cache on or off, as a list of mode pages says that is taken. Before it is turned off the disc is synchronised, and
+/// where that is refused the cache stays on.
 pub fn select<D: Caching>(disc: &mut D, payload: &[u8]) -> Answer
     requires taken { IsTakenList payload.now }
     ensures rule { IsSelected (D.shows disc.old) (D.shows disc.new) (D.stands disc.old) (D.stands disc.new)
@@ -104,12 +131,25 @@ pub fn select<D: Caching>(disc: &mut D, payload: &[u8]) -> Answer
     ensures same_shape { (D.shows disc.new).drive.shape ≡ (D.shows disc.old).drive.shape }
     ensures underwent { D.underwent disc.old disc.new }
 {
-    let mut modes = Modes::new(disc.caches(), false);
+    let on = disc.caches();
+    let later = caches_after(on, payload);
+    if on && !later {
+        return turn_off(disc);
+    }
+    disc.write_cache(later);
+    Answer::Good
+}
+
+/// Whether the write cache is on after a list of mode pages that is taken.
+fn caches_after(on: bool, payload: &[u8]) -> bool
+    requires taken { IsTakenList payload.now }
+    ensures { result ≡ caches_after payload.now on }
+{
+    let mut modes = Modes::new(on, false);
     match modes.select(payload) {
-        Ok(()) => disc.write_cache(modes.caches),
+        Ok(()) => modes.caches,
         Err(_) => unreachable!(),
     }
-    Answer::Good
 }
 
 /// How the end of a read is answered, or of a verification.
@@ -156,6 +196,16 @@ fn sync_answer(out: SyncOut) -> Answer
         SyncOut::Cut => Answer::Cut,
         SyncOut::Off => Answer::Off,
         SyncOut::Fault => Answer::Fault,
+    }
+}
+
+/// How the end of a synchronisation before an ejection is answered.
+fn settle_answer(out: SyncOut) -> Answer
+    ensures { result ≡ settle_answer out }
+{
+    match out {
+        SyncOut::NotFormatted => Answer::Good,
+        out => sync_answer(out),
     }
 }
 

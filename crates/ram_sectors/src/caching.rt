@@ -100,8 +100,8 @@ pub trait Caching {
         ensures underwent { underwent self.old self.new };
 
     /// Writes `n` sectors from sector `lba` on: into the cache where that is on and few blocks are covered, and else through it.
-    /// A write into the cache makes room first, by writing the oldest pending blocks that it does not cover to the disc; then it
-    /// reads the rests of blocks that it covers in part. One that is refused changes no contents.
+    /// A write into the cache makes room first, by writing pending blocks that it does not cover to the disc, the oldest first, until
+    /// enough have left; then it reads the rests of blocks that it covers in part. One that is refused changes no contents.
     ///
     /// # Clauses
     ///
@@ -111,29 +111,29 @@ pub trait Caching {
     ///   that was stopped leaves two discs: with the block in progress as before, and as written.
     /// - `completes`: a write in range is Good where nothing dies, and a write of whole blocks where it has spares.
     /// - `cause` (`CacheWriteCause`), `step` (`WriteContents`): into the cache where it is on and at most 16 blocks are covered:
-    ///   the oldest others leave first, the rests are read, then all covered blocks are pending; else through it.
+    ///   enough others leave first, the rests are read, then all covered blocks are pending; else through it.
     ///
     /// # Answers
     ///
     /// Where the cache is on and at most 16 blocks are covered (`goes_into_cache`), it is as follows, by `CachedCause` and
     /// `CachedContents`; else it is `write_through`.
     ///
-    /// - `Good`: the oldest blocks that had to leave the cache are on the disc, and the rests that were needed were read. Then:
-    ///   the covered blocks are pending; each has a new value, and its older ones stay. (`GoesIntoCache`, `CachedValues`)
+    /// - `Good`: as many blocks as had to leave the cache are on the disc, and the rests that were needed were read. Then: the
+    ///   covered blocks are pending; each has a new value, and its older ones stay. (`GoesIntoCache`, `CachedValues`)
     /// - `NotFormatted`: exactly when the power is on and the disc is not formatted. Then: nothing is pending.
     ///   (`CacheUnformatted`)
     /// - `Range`: exactly when the disc is formatted and `lba + n` is more than its capacity, which is told. Then: every value
     ///   stays. (`CacheOutOfRange`)
     /// - `Unread`: a block is covered in part, is not pending, and cannot be read; told are the first sector of the request in
     ///   it, and its home. Then: every value stays. (`LacksRestInCache`)
-    /// - `NoSpare`: a block that had to leave cannot be written: its home is dead, and so is every free spare; told is its first
-    ///   sector. Then: every value stays, and that block is pending. (`EndsFlushing`)
-    /// - `NoUpdate`: a block that had to leave cannot be written: its move cannot be noted. Then: every value stays, and that
-    ///   block is pending. (`EndsFlushing`)
+    /// - `NoSpare`: too few could leave, and the first that cannot be written has a dead home, and each free spare for it is dead; told
+    ///   is its first sector. Then: every value stays; what was refused is pending behind the others. (`MakesRoom`, `FallsShort`)
+    /// - `NoUpdate`: too few could leave, and of the first that cannot be written the move cannot be noted. Then: the same.
+    ///   (`MakesRoom`, `FallsShort`)
     /// - `Cut`: the power was cut in this write. Then: off; nothing is pending; the disc with the values before this write.
-    ///   (`EndsFlushing`, `LacksRestInCache`)
+    ///   (`MakesRoom`, `LacksRestInCache`)
     /// - `Off`: exactly when the power was off. Then: nothing changed. (`CacheWasOff`)
-    /// - `Fault`: what the medium lies on counted a failure. Then: as after `Cut`. (`EndsFlushing`, `LacksRestInCache`)
+    /// - `Fault`: what the medium lies on counted a failure. Then: as after `Cut`. (`MakesRoom`, `LacksRestInCache`)
     fn write(&mut self, lba: u32, n: u32, from: &[u8]) -> WriteOut
         requires few { n ≤ TRANSFER_LIMIT }
         requires whole { length from.now ≡ 2048 * n }
@@ -330,31 +330,33 @@ pub trait Caching {
         ensures same_shape { (shows self.new).drive.shape ≡ (shows self.old).drive.shape }
         ensures underwent { underwent self.old self.new };
 
-    /// Writes all pending blocks to the disc, the oldest first, up to the first that is refused.
+    /// Writes all pending blocks to the disc, the oldest first. One that is refused goes behind the others.
     ///
     /// # Clauses
     ///
-    /// - `cause` (`SyncCause`), `step` (`SyncContents`): all pending blocks are flushed, the oldest first, up to the first that
-    ///   is refused; after Good each block has its last value alone.
+    /// - `cause` (`SyncCause`), `step` (`SyncContents`): all pending blocks are drained, the oldest first; afterwards each block that
+    ///   is not pending has its last value alone.
     ///
     /// # Answers
     ///
     /// Causes: `SyncCause`; the values: `SyncContents`.
     ///
     /// - `Good`: each pending block was written, the oldest first. Then: nothing is pending, and each block has its last value
-    ///   alone. (`SyncsAll`, `SyncValues`)
+    ///   alone. (`DrainsAll`, `SyncValues`)
     /// - `NotFormatted`: exactly when the power is on and the disc is not formatted. Then: nothing is pending.
     ///   (`CacheUnformatted`)
-    /// - `NoSpare`: a pending block cannot be written: its home is dead, and so is every free spare; told is its first sector.
-    ///   Then: every value stays; it and those behind it are pending. (`StopsSyncing`)
-    /// - `NoUpdate`: a pending block cannot be written: its move cannot be noted. Then: the same. (`StopsSyncing`)
+    /// - `NoSpare`: some pending blocks cannot be written, and the first of them has a dead home, and each free spare for it is dead;
+    ///   told is its first sector. Then: those are pending, in the order in which they were tried; each other block has its last value
+    ///   alone. (`FallsShort`, `SyncValues`)
+    /// - `NoUpdate`: some pending blocks cannot be written, and of the first of them the move cannot be noted. Then: the same.
+    ///   (`FallsShort`, `SyncValues`)
     /// - `Cut`: the power was cut while a pending block was written. Then: off; nothing is pending; the disc with all values.
-    ///   (`StopsSyncing`)
+    ///   (`StopsTrying`)
     /// - `Off`: exactly when the power was off. Then: nothing changed. (`CacheWasOff`)
-    /// - `Fault`: what the medium lies on counted a failure. Then: as after `Cut`. (`StopsSyncing`)
+    /// - `Fault`: what the medium lies on counted a failure. Then: as after `Cut`. (`StopsTrying`)
     fn synchronize(&mut self) -> SyncOut
         ensures cause { SyncCause (shows self.old) (shows self.new) result }
-        ensures step { (s : Contents) → stands self.old s → SyncContents (stands self.new) s result }
+        ensures step { (s : Contents) → stands self.old s → SyncContents (shows self.new) (stands self.new) s result }
         ensures same_shape { (shows self.new).drive.shape ≡ (shows self.old).drive.shape }
         ensures underwent { underwent self.old self.new };
 
@@ -362,8 +364,8 @@ pub trait Caching {
     ///
     /// # Clauses
     ///
-    /// - `cause` (`TickCause`), `step` (`TickContents`): the oldest is flushed; Idle exactly where the power is on and nothing is
-    ///   pending.
+    /// - `cause` (`TickCause`), `step` (`TickContents`): the oldest is flushed, or stands behind the others; Idle exactly where the
+    ///   power is on and nothing is pending.
     ///
     /// # Answers
     ///
@@ -371,13 +373,13 @@ pub trait Caching {
     ///
     /// - `Idle`: the power is on and nothing is pending. Then: nothing changed. (`IsIdle`)
     /// - `Written`: the oldest pending block was written; told is its first sector. Then: it is not pending; every value stays.
-    ///   (`FlushesOldest`)
+    ///   (`TriesOldest`)
     /// - `NoSpare`: it cannot be written: its home is dead, and so is every free spare; told is its first sector. Then: every
-    ///   value stays, and it is pending. (`StopsTick`)
-    /// - `NoUpdate`: it cannot be written: its move cannot be noted. Then: the same. (`StopsTick`)
-    /// - `Cut`: the power was cut while it was written. Then: off; nothing is pending; the disc with all values. (`StopsTick`)
+    ///   value stays, and it is pending behind the others. (`TriesOldest`)
+    /// - `NoUpdate`: it cannot be written: its move cannot be noted. Then: the same. (`TriesOldest`)
+    /// - `Cut`: the power was cut while it was written. Then: off; nothing is pending; the disc with all values. (`TriesOldest`)
     /// - `Off`: exactly when the power was off. Then: nothing changed. (`CacheWasOff`)
-    /// - `Fault`: what the medium lies on counted a failure. Then: as after `Cut`. (`StopsTick`)
+    /// - `Fault`: what the medium lies on counted a failure. Then: as after `Cut`. (`TriesOldest`)
     fn tick(&mut self) -> TickOut
         ensures cause { TickCause (shows self.old) (shows self.new) result }
         ensures step { (s : Contents) → stands self.old s → TickContents (stands self.new) s result }

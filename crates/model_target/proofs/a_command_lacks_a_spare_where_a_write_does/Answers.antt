@@ -4,4 +4,4 @@ use Rattle.model_target.proofs.a_command_lacks_a_spare_where_a_write_does.Goals 
 
 pub returns : goal.returns
 returns c = λ old new host later cdb payload data_in named step.
-    (let lacks = step_lacks old new (CacheStandsFor old) (CacheStandsFor new) host later cdb payload data_in named step in (lacks.before, lacks.lba, lacks.n, lacks.lacks))
+    (let lacks = step_lacks old new (CacheStandsFor old) (CacheStandsFor new) host later cdb payload data_in named step in ((lacks.before, lacks.then, lacks.lba, lacks.n, lacks.lacks), lacks.none))

@@ -36,13 +36,13 @@ returns-in_default g c =
       rule = (
         flush_rule (g.D.Sectors.shows c.args.self.now.disc) (g.D.Sectors.shows c.write-out.new.self) p c.args.k c.number-number.result c.write-out.result c.number-number.ensures
             (record { same_shape = c.write-out.ensures.same_shape; sound = g.met.D.Sectors.laws.sound c.write-out.new.self }) c.write-out.ensures.cause,
-        left,
+        c.put_behind.ensures ∙ left,
         refl,
       );
       step = flush_step (g.D.Sectors.shows c.args.self.now.disc) (g.D.Sectors.shows c.write-out.new.self) (g.D.Sectors.stands c.args.self.now.disc) (g.D.Sectors.stands c.write-out.new.self)
           p c.args.k c.bytes.result.now (λ t so. (g.met.D.Sectors.laws.as_shown c.args.self.now.disc t).0 so) c.requires.can.on c.requires.there
           (inside_at p c.args.k c.requires.there c.requires.can.inside) c.args.self.now.pending.apart (c.bytes.ensures.same ∙ c.block.ensures) c.bytes.ensures.len
-          c.number-number.result p c.write-out.result c.number-number.ensures left c.write-out.ensures.cause c.write-out.ensures.step;
+          c.number-number.result (pending_of c.put_behind.new.self) c.write-out.result c.number-number.ensures (c.put_behind.ensures ∙ left) c.write-out.ensures.cause c.write-out.ensures.step;
       same_shape = c.write-out.ensures.same_shape;
       underwent = c.write-out.ensures.underwent;
     }

@@ -1,9 +1,9 @@
-use Rattle.std.proofs.Common.{refl, ap, ◌∙◌, ◌≡◌, List, ℕ, []}
+use Rattle.std.proofs.Common.{refl, ap, ◌≡◌, List, ℕ, []}
 use Rattle.std.specs.Prelude.{true, false}
 use Rattle.ram_scrub.specs.Scrub.{scrubber_of}
 use Rattle.ram_text.specs.declared.script.Line.TheVariants as lines
 use Rattle.ram_machine.specs.Replies.{data_told}
-use Rattle.ram_machine.proofs.InsertedSteps.{fail_shape, inserted_told, told_by, power_told, fail_told, wear_told, tick_told, step_told, command_told, press_answered}
+use Rattle.ram_machine.proofs.InsertedSteps.{fail_shape, inserted_told, told_by, power_told, fail_told, wear_told, tick_told, step_told, command_told}
 use Rattle.ram_machine.proofs.LineCounts.{rule_counts}
 use Rattle.ram_machine.proofs.Printing.{prints}
 use Rattle.ram_machine.proofs.inserted.Inserted.answer.Goals as goal
@@ -34,6 +34,12 @@ returns-in-Disc-Tick-clause-step g c = rw (c.in-Disc-Tick.is-0, c.in-Disc-Tick.i
     (inserted_told g.D.Caching g.D.Drive.lies_in g.D.Image.Image g.met.D.Caching.laws g.met.D.Drive.drive_laws c.in-Disc-Tick.target (record { disc = c.tick.new.self; host = c.in-Disc-Tick.target.host; block = c.in-Disc-Tick.target.block }) c.in-Disc-Tick.field-2-0 c.in-Disc-Tick.field-2-0 lines.Tick c.args.payload.now c.tick_outcome.result c.clear_before.new.data_in.items
     (record { out = c.tick.result; cause = c.tick.ensures.cause; step = c.tick.ensures.step; same_host = refl; outcome_is = c.tick_outcome.ensures }, (rw c.in-Disc-Tick.is-1 at c.clear_before.ensures.items)) c.tick.ensures.same_shape
     (g.met.D.Drive.drive_laws.by_events c.in-Disc-Tick.target.disc c.tick.new.self c.tick.ensures.underwent) refl _ c.clear_before.new.data_in.items _ (told_by _ _ c.tick_outcome.result _ c.tick_outcome.ensures (tick_told _ _ c.tick.result)))
+
+pub returns-in-Disc-Tick-clause-count : goal.returns-in-Disc-Tick-clause-count
+returns-in-Disc-Tick-clause-count g c = rw c.in-Disc-Tick.is-0
+    (rule_counts (g.D.Caching.shows c.in-Disc-Tick.target.disc) (g.D.Caching.shows c.tick.new.self) (g.D.Caching.stands c.in-Disc-Tick.target.disc) (g.D.Caching.stands c.tick.new.self)
+    c.in-Disc-Tick.target.host c.in-Disc-Tick.target.host lines.Tick c.args.payload.now c.tick_outcome.result c.clear_before.new.data_in.items
+    (record { out = c.tick.result; cause = c.tick.ensures.cause; step = c.tick.ensures.step; same_host = refl; outcome_is = c.tick_outcome.ensures }, (rw c.in-Disc-Tick.is-1 at c.clear_before.ensures.items)))
 
 pub returns-in-Disc-Command-clause-step : goal.returns-in-Disc-Command-clause-step
 returns-in-Disc-Command-clause-step g c = rw (c.in-Disc-Command.is-0, c.in-Disc-Command.is-1)
