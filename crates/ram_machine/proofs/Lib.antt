@@ -19,10 +19,9 @@ pub mod OldOrNew
 pub mod VerifiedLines
 pub mod ExpandedLines
 mod DataStays
-mod FairRuns
+pub mod FairRuns
 mod NoSpares
 pub mod ScrubbedLines
-mod LastingRuns
 pub mod SoundChains
 pub mod KeptPower
 pub mod Synced

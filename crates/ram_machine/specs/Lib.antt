@@ -10,7 +10,6 @@ pub mod Starts
 pub mod Statuses
 pub mod Acknowledged
 pub mod Fairness
-pub mod Survival
 pub mod Alone
 pub mod PlainCommands
 pub mod PlainRuns

@@ -80,27 +80,27 @@
 //! # Laws of runs
 //!
 //! What a user may rely on, as functions with an empty body (`src/laws.rt`, over `specs/Acknowledged.antt`, `Fairness.antt`,
-//! `Alone.antt`, `PlainRuns.antt` and `PlainCommands.antt`; `src/survival.rt`, over `specs/Survival.antt`; `src/promise.rt`, over
-//! `specs/Register.antt`):
+//! `Alone.antt`, `PlainRuns.antt` and `PlainCommands.antt`; `src/promise.rt`, over `specs/Register.antt`). That no cut loses the
+//! disc is said above, in `ram_survival`.
 //!
 //! The comment at each law says what it is, `make docs` lists them, and [HEADLINE](../../docs/HEADLINE.md) has them in a user's
 //! words. Where a law speaks of lines that ask for a format, a rewriting one counts too: of a disc that is not formatted it is a
-//! full one. Of the capacity in a second run, over the image that the first has left, no law speaks.
+//! full one.
 //!
 //! # How a new line of the script is added
 //!
 //! 1. `specs/LineSteps.antt`: what it does, as a case of `DiscRule` where it needs a disc, else of `Step`; and whether it counts
 //!    uses (`CountsUses`). `src/inserted.rt`: its case in `Inserted::answer`.
-//! 2. `specs/Acknowledged.antt`, `specs/Survival.antt`, `specs/Register.antt`: whether it may write a sector (`LeavesSector`),
-//!    whether it makes a disc anew (`KeepsDisc`), and what it does to the register (`Turn`); a line without a case does none of
-//!    this.
+//! 2. `specs/Acknowledged.antt`, `specs/Register.antt`, and `specs/Survival.antt` of `ram_survival`: whether it may write a sector
+//!    (`LeavesSector`), what it does to the register (`Turn`), and whether it makes a disc anew (`KeepsDisc`); a line without a
+//!    case does none of this.
 //! 3. `proofs`: one case in each lemma that goes through the forms of a line.
 //!    - `KeptPower.antt`, `FallenBack.antt`, `Alone.antt`: what is shown while the power stays, what a block may fall back to,
 //!      and that with the cache off it is a line of a drive without one (`PlainRule` of `specs/PlainRuns.antt`).
 //!    - `Scrubbed.antt`: what holds of lines that verify blocks alone.
 //!    - `StatesAfter.antt`, `LineCounts.antt`, `Labels.antt`: what the drive stands for then, the image's count, the label.
-//!    - `Acknowledged.antt`, `FairRuns.antt`, `LastingRuns.antt`: what was acknowledged stays, dead blocks alone are given up,
-//!      and the disc stays formatted.
+//!    - `Acknowledged.antt`, `FairRuns.antt`, and `LastingRuns.antt` of `ram_survival`: what was acknowledged stays, dead blocks
+//!      alone are given up, and the disc stays formatted.
 //!    - `Answering.antt`: it lacks no disc where there is one.
 //!    - `SectorTurns.antt`, `SectorBoth.antt`, `SectorRuns.antt`, `SectorNothing.antt`, `SectorSettled.antt`: what it does to the
 //!      register.
@@ -114,7 +114,6 @@ mod reply;
 mod rooms;
 pub mod status;
 mod stopped;
-pub mod survival;
 mod volume;
 
 pub use drive::Drive;

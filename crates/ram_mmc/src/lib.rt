@@ -64,8 +64,8 @@
 //!    - `model_target/proofs`: `Counted.antt`, `Found.antt` and `Sensed.antt`.
 //!    - `proofs/Judged.antt`.
 //!    - `ram_machine/proofs`: `Acknowledged.antt`, `Alone.antt`, `FairRuns.antt`, `FallenBack.antt`, `KeptPower.antt`,
-//!      `Labels.antt`, `LastingRuns.antt`, `SectorBoth.antt`, `SectorCommands.antt`, `SectorNothing.antt`, `SectorSettled.antt`; and
-//!      its row in `ram_machine/specs/PlainCommands.antt`.
+//!      `Labels.antt`, `SectorBoth.antt`, `SectorCommands.antt`, `SectorNothing.antt`, `SectorSettled.antt`; and its row in
+//!      `ram_machine/specs/PlainCommands.antt`. `ram_survival/proofs`: `LastingRuns.antt`.
 //! 6. Rows of `ram_command_tests` and `tests/rows`.
 //! 7. `docs/SCRIPT.md`, `crates/ram_run/src/help.rt` and `man/ram_drive.1`.
 #![tactic(auto)]

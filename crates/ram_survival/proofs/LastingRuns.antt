@@ -52,7 +52,7 @@ use Rattle.ram_machine.specs.States.{State, Served, Unopened, Disc, renewed, kin
 use Rattle.ram_machine.specs.LineSteps.{DiscRule, OnDisc, Step}
 use Rattle.ram_machine.specs.Runs.{IsStep, Run}
 use Rattle.ram_machine.specs.Answered.{AnsweredStep}
-use Rattle.ram_machine.specs.Survival.{KeepsAsAsked, KeepsAsDecoded, KeepsDisc, KeepDisc, AsksNoExpansion, LeavesCapacity, LeaveCapacity, HasInUse, HasTwoCopies, LastsNow, IsReadyOrCut}
+use Rattle.ram_survival.specs.Survival.{KeepsAsAsked, KeepsAsDecoded, KeepsDisc, KeepDisc, AsksNoExpansion, LeavesCapacity, LeaveCapacity, HasInUse, HasTwoCopies, LastsNow, IsReadyOrCut}
 use Rattle.ram_machine.proofs.Images.{image_left, kind_again}
 use Rattle.ram_machine.proofs.Scrubbed.{AtMostDies, at_most_dies}
 use Rattle.ram_machine.proofs.SoundChains.{contents_known, IsWell}

@@ -1,5 +1,5 @@
-use Rattle.ram_machine.proofs.LastingRuns.{ready_at_the_end, capacity_at_the_end, ready_again}
-use Rattle.ram_machine.proofs.survival.no_cut_loses_the_disc.Goals as goal
+use Rattle.ram_survival.proofs.LastingRuns.{ready_at_the_end, capacity_at_the_end, ready_again}
+use Rattle.ram_survival.proofs.discs.no_cut_loses_the_disc.Goals as goal
 
 pub returns-clause-ready : goal.returns-clause-ready
 returns-clause-ready c = ready_at_the_end

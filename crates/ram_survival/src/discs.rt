@@ -11,7 +11,7 @@ ghost use Rattle.ram_machine.specs.States.{State, Served, Disc, kind_of, IsFirst
 ghost use Rattle.ram_machine.specs.LineSteps.{Step};
 ghost use Rattle.ram_machine.specs.Runs.{IsStep, Run};
 ghost use Rattle.ram_machine.specs.Answered.{AnsweredStep};
-ghost use Rattle.ram_machine.specs.Survival.{KeepsDisc, KeepDisc, LeavesCapacity, LeaveCapacity, HasInUse, HasTwoCopies, LastsNow, IsReadyOrCut};
+ghost use Rattle.ram_survival.specs.Survival.{KeepsDisc, KeepDisc, LeavesCapacity, LeaveCapacity, HasInUse, HasTwoCopies, LastsNow, IsReadyOrCut};
 
 /// No power cut loses the disc. It begins formatted wherever lists are in use, and stays so over each line but a press and a
 /// full format, however the line ends, wherever cuts come and whatever blocks die, while at least two copies of each list have

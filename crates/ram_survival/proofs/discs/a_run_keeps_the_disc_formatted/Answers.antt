@@ -1,5 +1,5 @@
-use Rattle.ram_machine.proofs.LastingRuns.{now_begins, step_lasts, run_lasts, image_lasts, power_lasts}
-use Rattle.ram_machine.proofs.survival.a_run_keeps_the_disc_formatted.Goals as goal
+use Rattle.ram_survival.proofs.LastingRuns.{now_begins, step_lasts, run_lasts, image_lasts, power_lasts}
+use Rattle.ram_survival.proofs.discs.a_run_keeps_the_disc_formatted.Goals as goal
 
 pub returns-clause-begins : goal.returns-clause-begins
 returns-clause-begins c = now_begins
