@@ -11,7 +11,7 @@ use Rattle.model_medium.specs.declared.ArmedCut.{ArmedCut}
 use Rattle.model_geometry.specs.Geometry.{dds_block}
 use Rattle.model_lists.specs.Texts.{IsDdsText}
 use Rattle.model_volume.specs.Given.{AreSeen}
-use Rattle.model_survival.specs.Stops.{StopsMounting}
+use Rattle.model_survival.specs.Stops.{SdlCellsDie, StopsMounting}
 use Rattle.model_stops.specs.Stops.{Stops}
 use Rattle.model_stops.specs.declared.Stop.{Stop}
 use Rattle.model_stops.specs.declared.Stop.TheVariants as stops
@@ -117,6 +117,7 @@ module _ {M : Type 0} (world : M → World) (reaches : M → M → Span → Type
       lacks = λ known. ends.finds.lacks (known_on true known);
       uses = ends.uses;
       repaired = repaired_chosen new mark ends.dds ends.uses ends.repaired;
+      dies = λ known. (subst (λ (w : World). SdlCellsDie shape w.cells (world new).cells) powers ends.dies);
       mores = ends.mores;
       few = ends.finds.few;
       mores_are = λ known. ends.finds.counted (known_on true known);

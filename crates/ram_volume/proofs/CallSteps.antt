@@ -94,6 +94,7 @@ power_again old new powers.NotFormatted cause = record {
   lacks = cause.lacks;
   uses = cause.uses;
   repaired = chosen_again old new cause.chosen cause.uses cause.repaired;
+  dies = cause.dies;
   mores = cause.mores;
   few = cause.few;
   mores_are = cause.mores_are;
