@@ -99,7 +99,7 @@ module _ (i : ℕ) where
     pub nothing_living : new ≡ old → Lives old i → Lives new i
     nothing_living is lives = subst (λ (s : Shown). Lives s i) (sym is) lives
 
-    off_living : new.lists ≡ None → AreSameOrDead (cells_in old) (cells_in new) → Lives old i → Lives new i
+    pub off_living : new.lists ≡ None → AreSameOrDead (cells_in old) (cells_in new) → Lives old i → Lives new i
     off_living none dies lives = make
         (λ lists is. under_dies old.shape (cells_in old) (cells_in new) lists dies (lives.given lists (given_dies old.shape (cells_in old) (cells_in new) dies lists is)))
         (λ lists is. absurd (none_some lists new.lists none is))

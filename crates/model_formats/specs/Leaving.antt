@@ -7,6 +7,7 @@ use Rattle.model_lists.specs.Texts.{IsDdsText}
 use Rattle.model_medium.specs.Cells.{Cell}
 use Rattle.model_copies.specs.Copies.{Settled}
 use Rattle.model_copies.specs.Parts.{SdlIsExact}
+use Rattle.model_volume.specs.Given.{OnlyLists}
 use Rattle.model_survival.specs.Stops.{LeavesDds, LeavesSdl, SdlCellsDie}
 use Rattle.model_formats.specs.Fresh.{formatting_dds, formatted_dds, fresh_sdl}
 
@@ -15,10 +16,11 @@ abbrev pub SaysFormatting : Shape → List Cell → ℕ → Type 0
 SaysFormatting shape cells mark = Settled IsDdsText (dds_block shape) cells (formatting_dds shape mark)
 
 module _ (shape : Shape) (old new : List Cell) (mark : ℕ) where
-  -- the update of the structure that says Formatting was stopped
+  -- The update of the structure that says Formatting was stopped. No cell but those of lists changed: the data are as they were.
   pub record FormatsFirst : Type 0 where
     pub dds : LeavesDds shape old new (formatting_dds shape mark)
     pub sdl : SdlCellsDie shape old new
+    pub same_data : OnlyLists shape old new
 
   -- the certification was, or the update of the secondary list: in the certification that has an area 0
   pub record FormatsSdl : Type 0 where

@@ -193,7 +193,8 @@ pub trait Sectors {
     /// - `Ready`: lists were chosen among the copies; the capacity is told. Then: they are in use, their copies repaired; the
     ///   disc is the first candidate that fits them. (`MountsLists`, `FindsDisc`)
     /// - `NotFormatted`: none were chosen: no structure is valid, or the one chosen says Formatting, or no secondary list belongs
-    ///   to it. Then: the disc has no sectors; the mark is that of the copies. (`MountsNone`)
+    ///   to it. Then: the disc has no sectors; the mark is that of the copies; the cells of the secondary list are as they were, or
+    ///   dead. (`MountsNone`)
     /// - `Cut`: the power was cut in the mount. Then: off; the candidates are as before; nothing was repaired, or the chosen
     ///   structure in part, or both chosen lists. (`StopsInMount`, `StopsMounting`)
     /// - `Fault`: what the medium lies on counted a failure. Then: off; the candidates are as before. (`StopsInMount`)
@@ -232,7 +233,8 @@ pub trait Disc: Sectors {
     /// - `NoUpdate` of a rewriting one: a list has no copy left; its counter is told, the structure's where that is the one.
     ///   Then: disc and lists stay. (`RewritesInVain`)
     /// - `Cut` of a full one: the power was cut in this format. Then: off; the candidates are the disc and none, or none alone,
-    ///   or none and the disc of zeros; the lists are written up to there. (`StopsInFormat`, `StandsInFormat`, `FormatsInPart`)
+    ///   or none and the disc of zeros; the lists are written up to there, and no block of data before the structure says that a
+    ///   format began. (`StopsInFormat`, `StandsInFormat`, `FormatsInPart`)
     /// - `Cut` of a rewriting one: the power was cut in this format. Then: off; the disc is the only candidate; both lists are
     ///   repaired up to there. (`StopsInRewrite`, `MendsLists`)
     /// - `Off`: exactly when the power was off. Then: nothing changed. (`WasOff`)
