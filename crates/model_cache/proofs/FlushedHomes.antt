@@ -189,7 +189,7 @@ all_good (i ∷ due) old new sound known is j has =
 
 -- ---- of pending blocks
 
-numbered : (pending : List (ℕ × List ℕ)) (i : ℕ) (bytes : List ℕ) → Contains {X = ℕ × List ℕ} pending (i, bytes) → Contains (numbers_in pending) i
+pub numbered : (pending : List (ℕ × List ℕ)) (i : ℕ) (bytes : List ℕ) → Contains {X = ℕ × List ℕ} pending (i, bytes) → Contains (numbers_in pending) i
 numbered [] i bytes has = absurd (Contains-none {X = ℕ × List ℕ} (i, bytes) has)
 numbered (held ∷ pending) i bytes has = elim (Contains-cases {X = ℕ × List ℕ} held pending (i, bytes) has) [
   | inl same ↦ subst (λ (n : ℕ). Contains (held.0 ∷ numbers_in pending) n) (ap (λ (h : ℕ × List ℕ). h.0) same) (Contains-first held.0 (numbers_in pending))

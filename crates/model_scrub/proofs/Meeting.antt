@@ -26,11 +26,11 @@ same_home old new j shape lists =
     (subst (λ (l : Option Lists). home (record new { shape = old.shape; lists = l }) j ≡ home old j) (sym lists) refl)
 
 -- the block that a read of the disc met, and its home
-record Meets (old new : Shown) (named : ℕ) : Type 0 where
-  inside : block_with named < block_count old
-  unread : ¬ IsGood (home_cell new (block_with named))
+pub record Meets (old new : Shown) (named : ℕ) : Type 0 where
+  pub inside : block_with named < block_count old
+  pub unread : ¬ IsGood (home_cell new (block_with named))
 
-meets : (old new : Shown) (lba n named block : ℕ) → MeetsUnread old new lba n named block → Meets old new named
+pub meets : (old new : Shown) (lba n named block : ℕ) → MeetsUnread old new lba n named block → Meets old new named
 meets old new lba n named block cause =
     let is = named_block lba n named cause.before cause.is_named in
     let range = cause.inside.inside in

@@ -38,6 +38,8 @@ use Rattle.ram_machine.specs.LineSteps.{PressStep, DiscRule, OnDisc, Step}
 use Rattle.ram_machine.specs.Runs.{Run}
 use Rattle.ram_machine.specs.Answered.{AnsweredStep}
 use Rattle.ram_machine.specs.Acknowledged.{Acknowledged, LeavesAsAsked, LeavesAsDecoded, LeavesSector, LeaveSector}
+use Rattle.ram_machine.specs.OnlyTold.{UnlessTold}
+use Rattle.ram_machine.proofs.OnlyTold.{IsUnchangedIn, told_same}
 use Rattle.ram_machine.proofs.Decoded.{HasItsData, asks_for, its_data}
 use Rattle.ram_machine.proofs.Scrubbed.{ScrubLeaves, step_leaves, pass_leaves}
 use Rattle.ram_machine.proofs.WrittenDiscs.{Lies, SoInBlock, SoInValues, SoInContents, so_shown, written_left, written_off}
@@ -182,12 +184,21 @@ module _ (S : List ℕ → Type 0) (at : ℕ) where
       subst SoInState (sym (not_pressed_by (Disc s) t zones scale psa outcome step.0 leaves)) so
   step_keeps (Disc s) t line payload data_in outcome step leaves so = on_disc_keeps s line payload outcome data_in t step leaves so
 
+  pub so_unchanged : (s t : State) → IsUnchangedIn s t → SoInState s → SoInState t
+  so_unchanged (Unopened image) t is so = absurd so
+  so_unchanged (Disc s) (Unopened image) is so = absurd is
+  so_unchanged (Disc s) (Disc t) is so = subst (SoInContents S at) is.same_contents so
+
+  event_keeps : (s t : State) (event : AnsweredStep) → Step s event.line event.payload (Ok event.reply) event.data_in t → UnlessTold (LeavesSector at) event → SoInState s → SoInState t
+  event_keeps s t event step (inl told) so = so_unchanged s t (told_same s t event.line event.payload event.data_in event.reply step told) so
+  event_keeps s t event step (inr leaves) so = step_keeps s t event.line event.payload event.data_in (Ok event.reply) step leaves so
+
   -- and a run
   pub run_keeps : (s t : State) (answered : List AnsweredStep) → Run s answered t → LeaveSector at answered → SoInState s → SoInState t
   run_keeps s t [] run leaves so = subst SoInState (sym run) so
   run_keeps s t (event ∷ answered) run leaves so =
-      step_keeps run.0 t event.line event.payload event.data_in (Ok event.reply) run.2 (All-head (λ (e : AnsweredStep). LeavesSector at e.line e.payload) event answered leaves)
-      (run_keeps s run.0 answered run.1 (All-tail (λ (e : AnsweredStep). LeavesSector at e.line e.payload) event answered leaves) so)
+      event_keeps run.0 t event run.2 (All-head (UnlessTold (LeavesSector at)) event answered leaves)
+      (run_keeps s run.0 answered run.1 (All-tail (UnlessTold (LeavesSector at)) event answered leaves) so)
 
 -- what is acknowledged
 pub as_so : (s : State) (at : ℕ) (bytes : List ℕ) → Acknowledged s at bytes → SoInState (λ found. found ≡ bytes) at s

@@ -1,8 +1,8 @@
 -- To what a sector may fall back when power is lost, over the lines of a run.
-use Rattle.std.specs.Prelude.{◌≡◌, ℕ, ◌+◌, ◌*◌, ◌<◌, ◌≤◌, ◌⊎◌, Bool, true, false, ◌&&◌, not, nat_lt, if◌then◌else◌, Option, Some, None, Result, Ok, Err, List, [], ◌∷◌, length, All}
+use Rattle.std.specs.Prelude.{◌≡◌, ℕ, ◌+◌, ◌*◌, ◌<◌, ◌≤◌, ◌⊎◌, Bool, true, false, ◌&&◌, not, nat_lt, if◌then◌else◌, IsTrue, Option, Some, None, Result, Ok, Err, List, [], ◌∷◌, length, All}
 use Rattle.std.specs.List.{Contains}
 use Rattle.std.proofs.Common.{arith, refl, sym, ap, ◌∙◌, inl, inr, subst}
-use Rattle.std.proofs.lemmas.Bool.{cases_lt, lt-ltb, le-ltb, true≢false}
+use Rattle.std.proofs.lemmas.Bool.{cases_lt, lt-ltb, le-ltb, true≢false, false≢true}
 use Rattle.std.proofs.lemmas.List.Elements.{All-head, All-tail}
 use Rattle.model_geometry.specs.Geometry.{Shape}
 use Rattle.model_medium.specs.Cells.{Cell}
@@ -26,7 +26,9 @@ use Rattle.ram_machine.specs.Runs.{Run}
 use Rattle.ram_machine.specs.Answered.{AnsweredStep}
 use Rattle.ram_machine.specs.Acknowledged.{Acknowledged, FallsBackTo, StandsWithSector, HasNow, IsAmong, LeavesAsDecoded, LeavesSector, WritesAsDecoded, NeitherPressesNorFormats, choices_asked, choices_with, choices_after}
 use Rattle.ram_machine.specs.SectorBytes.{bytes_of_sector, is_sector_among}
-use Rattle.ram_machine.proofs.Acknowledged.{SoInState, step_keeps}
+use Rattle.ram_machine.specs.OnlyTold.{was_only_told, UnlessTold}
+use Rattle.ram_machine.proofs.OnlyTold.{IsUnchangedIn, told_same}
+use Rattle.ram_machine.proofs.Acknowledged.{SoInState, step_keeps, so_unchanged}
 use Rattle.ram_machine.proofs.WrittenDiscs.{SoInBlock, SoInContents, so_shown}
 use Rattle.ram_machine.proofs.OldOrNew.{so_weaker, line_writes}
 
@@ -132,12 +134,24 @@ step_back s t (lines.Cut n fate) payload data_in outcome at choices step writes 
 step_back s t (lines.Scrub all) payload data_in outcome at choices step writes back = leaves_back s t (lines.Scrub all) payload data_in outcome at choices step tt back
 step_back s t lines.Tick payload data_in outcome at choices step writes back = leaves_back s t lines.Tick payload data_in outcome at choices step tt back
 
-pub run_back : (s t : State) (events : List AnsweredStep) (at : ℕ) (choices : List (List ℕ)) → Run s events t → All (λ (e : AnsweredStep). NeitherPressesNorFormats e.line e.payload) events → FallsBackTo s at choices → FallsBackTo t at (choices_after at events choices)
+-- a line that was only told that it is not done
+told_back : (s t : State) (at : ℕ) (choices : List (List ℕ)) → IsUnchangedIn s t → FallsBackTo s at choices → FallsBackTo t at choices
+told_back s t at choices is back = so_falls t at choices (so_unchanged (Contains choices) at s t is (as_so s at choices back))
+
+-- a step of a run, which tells only or does not
+event_back : (s t : State) (event : AnsweredStep) (at : ℕ) (choices : List (List ℕ)) (told : Bool) → was_only_told event.reply ≡ told → Step s event.line event.payload (Ok event.reply) event.data_in t
+    → UnlessTold NeitherPressesNorFormats event → FallsBackTo s at choices → FallsBackTo t at (if told then choices else choices_with at event.line event.payload choices)
+event_back s t event at choices true is step writes back =
+    told_back s t at choices (told_same s t event.line event.payload event.data_in event.reply step (subst IsTrue (sym is) refl)) back
+event_back s t event at choices false is step (inl told) back = absurd (false≢true (subst IsTrue is told))
+event_back s t event at choices false is step (inr writes) back = step_back s t event.line event.payload event.data_in (Ok event.reply) at choices step writes back
+
+pub run_back : (s t : State) (events : List AnsweredStep) (at : ℕ) (choices : List (List ℕ)) → Run s events t → All (UnlessTold NeitherPressesNorFormats) events → FallsBackTo s at choices → FallsBackTo t at (choices_after at events choices)
 run_back s t [] at choices run writes back = subst (λ (x : State). FallsBackTo x at choices) (sym run) back
 run_back s t (event ∷ events) at choices run writes back =
-    step_back run.0 t event.line event.payload event.data_in (Ok event.reply) at (choices_after at events choices) run.2
-    (All-head (λ (e : AnsweredStep). NeitherPressesNorFormats e.line e.payload) event events writes)
-    (run_back s run.0 events at choices run.1 (All-tail (λ (e : AnsweredStep). NeitherPressesNorFormats e.line e.payload) event events writes) back)
+    event_back run.0 t event at (choices_after at events choices) (was_only_told event.reply) refl run.2
+    (All-head (UnlessTold NeitherPressesNorFormats) event events writes)
+    (run_back s run.0 events at choices run.1 (All-tail (UnlessTold NeitherPressesNorFormats) event events writes) back)
 
 -- a disc has whole blocks
 whole_by : (shape : Shape) (cells : List Cell) (lists : Option Lists) (buffer : List (ℕ × List ℕ)) (disc : List ℕ) → StandsBy shape cells lists buffer disc → (blocks : ℕ) × (length disc ≡ 32768 * blocks)

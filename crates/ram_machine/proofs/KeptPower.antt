@@ -47,6 +47,8 @@ use Rattle.ram_machine.specs.Runs.{IsStep, Run}
 use Rattle.ram_machine.specs.Answered.{AnsweredStep}
 use Rattle.ram_machine.specs.Acknowledged.{StandsWithSector, HasNow, WasDone, IsAmong, LeavesAsAsked, LeavesAsDecoded, LeavesSector, LeaveSector, KeepsPower, KeepPower}
 use Rattle.ram_machine.specs.SectorBytes.{bytes_of_sector}
+use Rattle.ram_machine.specs.OnlyTold.{UnlessTold}
+use Rattle.ram_machine.proofs.OnlyTold.{IsUnchangedIn, told_same}
 use Rattle.ram_machine.proofs.Decoded.{HasItsData, asks_for, its_data}
 use Rattle.ram_machine.proofs.Acknowledged.{not_pressed_by, sector_left}
 use Rattle.ram_machine.proofs.Scrubbed.{ScrubLeaves, step_leaves, pass_leaves}
@@ -278,12 +280,21 @@ module _ (at : ℕ) (bytes : List ℕ) where
       subst KeepsNow (sym (not_pressed_by (Disc s) t zones scale psa (Ok reply) step.0 leaves)) keeps
   step_shows (Disc s) t line payload data_in reply step power leaves keeps = on_disc_shows s line payload reply data_in t step power leaves keeps
 
+  shows_unchanged : (s t : State) → IsUnchangedIn s t → KeepsNow s → KeepsNow t
+  shows_unchanged (Unopened image) t is keeps = absurd keeps
+  shows_unchanged (Disc s) (Unopened image) is keeps = absurd is
+  shows_unchanged (Disc s) (Disc t) is keeps = subst KeepsShown is.same_contents keeps
+
+  event_shows : (s t : State) (event : AnsweredStep) → IsStep s event t → KeepsPower event.line event.reply → UnlessTold (LeavesSector at) event → KeepsNow s → KeepsNow t
+  event_shows s t event step power (inl told) keeps = shows_unchanged s t (told_same s t event.line event.payload event.data_in event.reply step told) keeps
+  event_shows s t event step power (inr leaves) keeps = step_shows s t event.line event.payload event.data_in event.reply step power leaves keeps
+
   pub run_shows : (s t : State) (answered : List AnsweredStep) → Run s answered t → KeepPower answered → LeaveSector at answered → KeepsNow s → KeepsNow t
   run_shows s t [] run power leaves keeps = subst KeepsNow (sym run) keeps
   run_shows s t (event ∷ answered) run power leaves keeps =
-      step_shows run.0 t event.line event.payload event.data_in event.reply run.2 (All-head (λ (e : AnsweredStep). KeepsPower e.line e.reply) event answered power)
-      (All-head (λ (e : AnsweredStep). LeavesSector at e.line e.payload) event answered leaves)
-      (run_shows s run.0 answered run.1 (All-tail (λ (e : AnsweredStep). KeepsPower e.line e.reply) event answered power) (All-tail (λ (e : AnsweredStep). LeavesSector at e.line e.payload) event answered leaves) keeps)
+      event_shows run.0 t event run.2 (All-head (λ (e : AnsweredStep). KeepsPower e.line e.reply) event answered power)
+      (All-head (UnlessTold (LeavesSector at)) event answered leaves)
+      (run_shows s run.0 answered run.1 (All-tail (λ (e : AnsweredStep). KeepsPower e.line e.reply) event answered power) (All-tail (UnlessTold (LeavesSector at)) event answered leaves) keeps)
 
   stands_keeps : (c : Contents) → StandsWithSector c at bytes → KeepsShown c
   stands_keeps (Has v) is = λ within. is.bytes_are

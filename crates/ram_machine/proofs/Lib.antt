@@ -10,6 +10,7 @@ pub mod Opens
 pub mod Answering
 pub mod Decoded
 pub mod WrittenDiscs
+pub mod OnlyTold
 pub mod Acknowledged
 pub mod Shortened
 pub mod DoneLines
@@ -20,7 +21,7 @@ pub mod VerifiedLines
 pub mod ExpandedLines
 mod DataStays
 pub mod FairRuns
-mod NoSpares
+pub mod NoSpares
 pub mod ScrubbedLines
 pub mod SoundChains
 pub mod KeptPower
@@ -40,5 +41,6 @@ pub mod SectorBoth
 pub mod SectorRuns
 pub mod SectorOpened
 pub mod SectorAgain
+pub mod ToldTurns
 pub mod SectorSettled
 pub mod SectorNothing

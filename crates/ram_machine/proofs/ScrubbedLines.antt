@@ -110,9 +110,9 @@ module _ (host : Host) (formatted : Bool) (payload : List ℕ) (lba n : ℕ) (wh
   refused_unnamed cdb asks judged = judged_unnamed (asked host cdb payload) (by_operation (operation_of cdb) cdb asks) judged
 
 -- the answer names the block that was met
-record Unread (old new : CacheShown) (lba n named : ℕ) : Type 0 where
-  block : ℕ
-  cause : CacheReadCause old new lba n (reads.Unread named block)
+pub record Unread (old new : CacheShown) (lba n named : ℕ) : Type 0 where
+  pub block : ℕ
+  pub cause : CacheReadCause old new lba n (reads.Unread named block)
 
 unread_answer : (old new : CacheShown) (lba n named : ℕ) (out : ReadOut) → CacheReadCause old new lba n out → answers.Check (sense_at 0x3 0x11 0x00 named) ≡ read_answer out → Unread old new lba n named
 unread_answer old new lba n named reads.Good cause is = absurd cc
@@ -140,7 +140,7 @@ module _ (old new : CacheShown) (before after : Contents → Type 0) (host later
       (same_asked command (commands.Read lba n) (decoded cdb payload) (asks_for host formatted cdb payload command is) asks) p in
       unread_answer old new lba n named done.out done.cause done.answer_is
 
-  executed : ExecutesTo old new before after host later cdb payload (answers.Check (sense_at 0x3 0x11 0x00 named)) data_in → Unread old new lba n named
+  pub executed : ExecutesTo old new before after host later cdb payload (answers.Check (sense_at 0x3 0x11 0x00 named)) data_in → Unread old new lba n named
   executed (inl off) = absurd (let e : answers.Check (sense_at 0x3 0x11 0x00 named) ≡ answers.Off = off.1.is_answered.answer_is in cc)
   executed (inr on) = by_judged (is_some old.drive.lists) on.1.judged on.1.is_judged on.1.is_answered
 

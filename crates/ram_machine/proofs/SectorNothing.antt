@@ -1,5 +1,5 @@
 -- What a register may show over lines: what it had at first, zeros, and what writes of the sector sent: from the register alone.
-use Rattle.std.specs.Prelude.{◌&&◌, not, ◌≡◌, ℕ, ◌==◌, ◌⊎◌, Bool, true, false, nat_lt, if◌then◌else◌, MatchBool, Option, None, Some, Result, Ok, Err, List, [], ◌∷◌}
+use Rattle.std.specs.Prelude.{◌&&◌, not, ◌≡◌, ℕ, ◌==◌, ◌⊎◌, Bool, true, false, IsTrue, nat_lt, if◌then◌else◌, MatchBool, Option, None, Some, Result, Ok, Err, List, [], ◌∷◌}
 use Rattle.std.specs.List.{Contains}
 use Rattle.std.proofs.Common.{refl, sym, ◌∙◌, inl, inr, subst}
 use Rattle.model_modes.specs.ParameterLists.{caches_after}
@@ -18,6 +18,8 @@ use Rattle.ram_machine.specs.declared.reply.Reply.TheVariants as replies
 use Rattle.ram_machine.specs.Answered.{AnsweredStep}
 use Rattle.ram_machine.specs.Acknowledged.{choices_asked, choices_with, choices_after}
 use Rattle.ram_machine.specs.SectorBytes.{bytes_of_sector, is_sector_among}
+use Rattle.ram_machine.specs.OnlyTold.{was_only_told, WasOnlyTold}
+use Rattle.ram_machine.proofs.ToldTurns.{told_answer, told_turn}
 use Rattle.model_drive.specs.declared.Kind.{Kind}
 use Rattle.model_drive.specs.declared.Kind.TheVariants as kinds
 use Rattle.model_sectors.specs.Discs.{zeros}
@@ -254,10 +256,24 @@ module _ (at : ℕ) where
   by_line choices r after (lines.Scrub all) payload reply data_in turn has = carried choices (left_in reply r) after turn (by_reply choices r reply has)
   by_line choices r after (lines.Command cdb) payload reply data_in turn has = by_command choices r after (decoded cdb payload) payload data_in turn.0 turn.2 has
 
+  -- one that was only told adds nothing
+  by_told : (choices : List (List ℕ)) (r after : Register) (line : Line) (payload : List ℕ) (reply : Reply) (data_in : List ℕ) → Turn at r line payload reply data_in after → WasOnlyTold reply → Among r choices
+      → Among after choices
+  by_told choices r after (lines.Command cdb) payload reply data_in turn told has = elim (told_turn at r after (decoded cdb payload) payload data_in turn.0 (told_answer cdb reply turn.0 turn.1 told) turn.2) [
+    | inl is ↦ carried choices r after is has
+    | inr is ↦ carried choices (gone r) after is (is_gone choices r has)
+  ]
+  by_told choices r after line payload reply data_in turn told has = by_line choices r after line payload reply data_in turn has
+
+  by_event : (choices : List (List ℕ)) (r after : Register) (event : AnsweredStep) (told : Bool) → was_only_told event.reply ≡ told → Turn at r event.line event.payload event.reply event.data_in after → Among r choices
+      → Among after (if told then choices else choices_with at event.line event.payload choices)
+  by_event choices r after event true is turn has = by_told choices r after event.line event.payload event.reply event.data_in turn (subst IsTrue (sym is) refl) has
+  by_event choices r after event false is turn has = by_line choices r after event.line event.payload event.reply event.data_in turn has
+
   by_lines : (choices : List (List ℕ)) (r after : Register) (answered : List AnsweredStep) → Turns at r answered after → Among r choices → Among after (choices_after at answered choices)
   by_lines choices r after [] turns has = carried choices r after turns has
   by_lines choices r after (event ∷ answered) turns has =
-      by_line (choices_after at answered choices) turns.0 after event.line event.payload event.reply event.data_in turns.2 (by_lines choices r turns.0 answered turns.1 has)
+      by_event (choices_after at answered choices) turns.0 after event (was_only_told event.reply) refl turns.2 (by_lines choices r turns.0 answered turns.1 has)
 
   -- what it has then is zeros, one that it might have at first, or one that was sent
   pub one_of_them : (r after : Register) (answered : List AnsweredStep) (found : List ℕ) → Turns at r answered after → r.now ≡ None → after.now ≡ Some (Bytes found)

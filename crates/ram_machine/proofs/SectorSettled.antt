@@ -20,6 +20,8 @@ use Rattle.ram_machine.specs.declared.reply.Reply.TheVariants as replies
 use Rattle.ram_machine.specs.Answered.{AnsweredStep}
 use Rattle.ram_machine.specs.Acknowledged.{WasDone, LeavesAsDecoded, LeavesSector, LeaveSector}
 use Rattle.ram_machine.specs.SectorBytes.{bytes_of_sector, is_sector_among}
+use Rattle.ram_machine.specs.OnlyTold.{WasOnlyTold, UnlessTold}
+use Rattle.ram_machine.proofs.ToldTurns.{told_answer, told_turn}
 use Rattle.ram_machine.specs.Register.{synchronised_if, Value, Bytes, Register, settled, gone, powered, synchronised, left_by, left_in, goes_through, AfterWrite, AfterGood, AfterOther, AfterCommand, AfterPower, AfterPress, Turn, Turns, HasSettled}
 
 module _ (at : ℕ) (bytes : List ℕ) where
@@ -150,7 +152,7 @@ module _ (at : ℕ) (bytes : List ℕ) where
   by_command r after (Ok commands.Streaming) payload data_in answer leaves is has = by_other r after commands.Streaming payload data_in answer is has
 
   -- a line
-  by_line : (r after : Register) (line : Line) (payload : List ℕ) (reply : Reply) (data_in : List ℕ) → Turn at r line payload reply data_in after → LeavesSector at line payload → Has r → Has after
+  by_line : (r after : Register) (line : Line) (payload : List ℕ) (reply : Reply) (data_in : List ℕ) → Turn at r line payload reply data_in after → WasOnlyTold reply ⊎ LeavesSector at line payload → Has r → Has after
   by_line r after lines.Empty payload reply data_in turn leaves has = carried (left_in reply r) after turn.1 (by_reply r reply has)
   by_line r after (lines.Press zones scale psa) payload reply data_in turn leaves has = by_press r after reply turn.1 has
   by_line r after lines.Power payload reply data_in turn leaves has = by_power r after reply turn.1 has
@@ -159,14 +161,18 @@ module _ (at : ℕ) (bytes : List ℕ) where
   by_line r after (lines.Cut n fate) payload reply data_in turn leaves has = carried (left_in reply r) after turn.1 (by_reply r reply has)
   by_line r after lines.Tick payload reply data_in turn leaves has = carried (left_in reply r) after turn.1 (by_reply r reply has)
   by_line r after (lines.Scrub all) payload reply data_in turn leaves has = carried (left_in reply r) after turn (by_reply r reply has)
-  by_line r after (lines.Command cdb) payload reply data_in turn leaves has = by_command r after (decoded cdb payload) payload data_in turn.0 leaves turn.2 has
+  by_line r after (lines.Command cdb) payload reply data_in turn (inl told) has = elim (told_turn at r after (decoded cdb payload) payload data_in turn.0 (told_answer cdb reply turn.0 turn.1 told) turn.2) [
+    | inl is ↦ carried r after is has
+    | inr is ↦ carried (gone r) after is (is_gone r has)
+  ]
+  by_line r after (lines.Command cdb) payload reply data_in turn (inr leaves) has = by_command r after (decoded cdb payload) payload data_in turn.0 leaves turn.2 has
 
   pub stays_settled : (r after : Register) (answered : List AnsweredStep) → Turns at r answered after → LeaveSector at answered → HasSettled r bytes → HasSettled after bytes
   stays_settled r after [] turns leaves has = carried r after turns has
   stays_settled r after (event ∷ answered) turns leaves has =
       by_line turns.0 after event.line event.payload event.reply event.data_in turns.2
-      (All-head (λ (e : AnsweredStep). LeavesSector at e.line e.payload) event answered leaves)
-      (stays_settled r turns.0 answered turns.1 (All-tail (λ (e : AnsweredStep). LeavesSector at e.line e.payload) event answered leaves) has)
+      (All-head (UnlessTold (LeavesSector at)) event answered leaves)
+      (stays_settled r turns.0 answered turns.1 (All-tail (UnlessTold (LeavesSector at)) event answered leaves) has)
 
 -- what a command did that was answered Good
 good_turn : (at : ℕ) (r after : Register) (event : AnsweredStep) (asked : Command) → Turn at r event.line event.payload event.reply event.data_in after → WasDone event asked

@@ -139,9 +139,9 @@ module _ (i : ℕ) (bytes image : List ℕ) where
 -- ---- a tick
 
 -- what a tick did that wrote this block
-record WroteBlock (old new : CacheShown) (s t : Contents) (i : ℕ) : Type 0 where
-  flushed : Flushes (dropped old) new i
-  step : TickContents (λ x. x ≡ t) s (ticks.Written (16 * i))
+pub record WroteBlock (old new : CacheShown) (s t : Contents) (i : ℕ) : Type 0 where
+  pub flushed : Flushes (dropped old) new i
+  pub step : TickContents (λ x. x ≡ t) s (ticks.Written (16 * i))
 
 written_tick : (i : ℕ) (out : TickOut) → Ok (replies.Event (events.Written (16 * i))) ≡ tick_outcome out → out ≡ ticks.Written (16 * i)
 written_tick i ticks.Idle is = absurd cc
@@ -164,7 +164,7 @@ flushed_one old new block p =
     let all = all_flushed (block ∷ []) 1 old new p.0 (omega arith) p.1 in
     subst (λ (s : CacheShown). Flushes old s block) (sym all.2) all.1
 
-tick_wrote : (old new : CacheShown) (s t : Contents) (host later : Host) (i : ℕ) → TickLine old new (λ x. x ≡ s) (λ x. x ≡ t) host later (Ok (replies.Event (events.Written (16 * i)))) → WroteBlock old new s t i
+pub tick_wrote : (old new : CacheShown) (s t : Contents) (host later : Host) (i : ℕ) → TickLine old new (λ x. x ≡ s) (λ x. x ≡ t) host later (Ok (replies.Event (events.Written (16 * i)))) → WroteBlock old new s t i
 tick_wrote old new s t host later i p =
     let is = written_tick i p.out p.outcome_is in
     let cause : TickCauseOf (dropped old) new (ticks.Written (16 * i)) = subst (TickCause old new) is p.cause in
@@ -174,7 +174,7 @@ tick_wrote old new s t host later i p =
     }
 
 -- a block is not pending once it is taken out
-not_there : (pending : List (ℕ × List ℕ)) (i : ℕ) → ¬ IsPending (pending_but i pending) i
+pub not_there : (pending : List (ℕ × List ℕ)) (i : ℕ) → ¬ IsPending (pending_but i pending) i
 not_there pending i (bytes, has) =
     by_test i (Contains-passed {X = ℕ × List ℕ} (λ (held : ℕ × List ℕ). not (held.0 == i)) pending (i, bytes) has).0
   where

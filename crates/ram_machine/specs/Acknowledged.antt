@@ -25,6 +25,7 @@ use Rattle.ram_machine.specs.declared.reply.Reply.TheVariants as replies
 use Rattle.ram_machine.specs.States.{State, Unopened, Disc}
 use Rattle.ram_machine.specs.Answered.{AnsweredStep}
 use Rattle.ram_machine.specs.SectorBytes.{bytes_of_sector, is_sector_among}
+use Rattle.ram_machine.specs.OnlyTold.{was_only_told, UnlessTold}
 
 -- the disc has a sector of this number, with these bytes
 pub record HasSector (disc : List ℕ) (at : ℕ) (bytes : List ℕ) : Type 0 where
@@ -112,10 +113,9 @@ KeepsPower line reply = Unit {0}
 abbrev pub KeepPower : List AnsweredStep → Type 0
 KeepPower events = All (λ (event : AnsweredStep). KeepsPower event.line event.reply) events
 
--- none of these lines writes the sector
+-- none of these lines writes the sector, unless it was only told that it is not done
 abbrev pub LeaveSector : (at : ℕ) → List AnsweredStep → Type 0
-LeaveSector at events =
-    All (λ (event : AnsweredStep). LeavesSector at event.line event.payload) events
+LeaveSector at events = All (UnlessTold (LeavesSector at)) events
 
 -- A command writes sectors at most: it formats nothing.
 abbrev pub WritesAsAsked : Command → Type 0
@@ -144,11 +144,12 @@ abbrev pub choices_with : (at : ℕ) → Line → (payload : List ℕ) → List 
 choices_with at (lines.Command cdb) payload choices = choices_asked at (decoded cdb payload) payload choices
 choices_with at _ payload choices = choices
 
--- the same of a run, whose newest line comes first
+-- the same of a run, whose newest line comes first: a line that was only told adds nothing
 abbrev pub choices_after : (at : ℕ) → List AnsweredStep → List (List ℕ) → List (List ℕ)
 choices_after at [] choices = choices
 choices_after at (event ∷ events) choices =
-    choices_with at event.line event.payload (choices_after at events choices)
+    if was_only_told event.reply then choices_after at events choices
+    else choices_with at event.line event.payload (choices_after at events choices)
 
 -- With these cells the home of the sector's logical block, by the lists in use, has whole bytes, and these in
 -- the sector.

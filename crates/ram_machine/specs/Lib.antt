@@ -18,4 +18,5 @@ pub mod SectorBytes
 pub mod Runs
 pub mod LineFaults
 pub mod Register
+pub mod OnlyTold
 pub mod Scrubs

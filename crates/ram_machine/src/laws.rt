@@ -21,6 +21,7 @@ ghost use Rattle.ram_machine.specs.LineSteps.{Step};
 ghost use Rattle.ram_machine.specs.Underwent.{UnderwentEvents, WritesNone};
 ghost use Rattle.ram_machine.specs.Runs.{IsStep, Run};
 ghost use Rattle.ram_machine.specs.Answered.{AnsweredStep};
+ghost use Rattle.ram_machine.specs.OnlyTold.{UnlessTold};
 ghost use Rattle.ram_machine.specs.Acknowledged.{Acknowledged, HasNow, GoesThrough, WasDone, IsAmong, LeavesSector, LeaveSector, KeepPower, HoldsOldOrNew, FallsBackTo, choices_with, choices_after, NeitherPressesNorFormats, HasInImage, HasBlockInImage, IsPendingIn};
 ghost use Rattle.ram_machine.specs.SectorBytes.{bytes_of_sector};
 ghost use Rattle.ram_machine.specs.Alone.{IsAlone, LeavesAlone, LeaveAlone};
@@ -30,7 +31,7 @@ ghost use Rattle.ram_machine.specs.Fairness.{FairNow, WasToldNoSpare, HasNoSpare
 
 /// What was acknowledged of a sector stays so while no line writes it, through every failure of a block and
 /// every cut of the power, and whenever the power goes off and on again: over one line, however it ends, and
-/// over a run.
+/// over a run. There a command that was only told that it is not done writes nothing, whatever it asks for.
 pub fn acknowledged_bytes_stay()
     ensures step { (s t : State) (line : Line) (payload data_in : List ℕ) (outcome : Outcome)
         (at : ℕ) (bytes : List ℕ) → Step s line payload outcome data_in t → LeavesSector at line payload
@@ -169,14 +170,15 @@ pub fn a_read_is_unreadable_where_a_scrub_told_it()
 
 /// After a power loss a sector has what was acknowledged of it, or what a later write sent, and nothing older or other: however
 /// lines end, whatever blocks die, wherever the power is cut. What is acknowledged is the one thing to which it may fall back;
-/// each write of it adds what it sends, and no line but a write and a format adds anything.
+/// each write of it adds what it sends, and no line but a write and a format adds anything; nor does one of these that was only
+/// told that it is not done.
 pub fn after_a_power_loss_a_sector_has_one_of_its_values()
     ensures begins { (s : State) (at : ℕ) (bytes : List ℕ) → Acknowledged s at bytes → FallsBackTo s at (bytes ∷ []) }
     ensures step { (s t : State) (line : Line) (payload data_in : List ℕ) (outcome : Outcome) (at : ℕ)
         (choices : List (List ℕ)) → Step s line payload outcome data_in t → NeitherPressesNorFormats line payload
         → FallsBackTo s at choices → FallsBackTo t at (choices_with at line payload choices) }
     ensures run { (s t : State) (events : List AnsweredStep) (at : ℕ) (choices : List (List ℕ)) → Run s events t
-        → All (λ (event : AnsweredStep). NeitherPressesNorFormats event.line event.payload) events
+        → All (UnlessTold NeitherPressesNorFormats) events
         → FallsBackTo s at choices → FallsBackTo t at (choices_after at events choices) }
     ensures found { (s : State) (at : ℕ) (choices : List (List ℕ)) (bytes : List ℕ) → FallsBackTo s at choices
         → HasNow s at bytes → Contains choices bytes }

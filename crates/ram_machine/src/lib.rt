@@ -81,7 +81,7 @@
 //!
 //! What a user may rely on, as functions with an empty body (`src/laws.rt`, over `specs/Acknowledged.antt`, `Fairness.antt`,
 //! `Alone.antt`, `PlainRuns.antt` and `PlainCommands.antt`; `src/promise.rt`, over `specs/Register.antt`). That no cut loses the
-//! disc is said above, in `ram_survival`.
+//! disc, and that a block can be read until it dies, is said above, in `ram_survival`.
 //!
 //! The comment at each law says what it is, `make docs` lists them, and [HEADLINE](../../docs/HEADLINE.md) has them in a user's
 //! words. Where a law speaks of lines that ask for a format, a rewriting one counts too: of a disc that is not formatted it is a
@@ -91,9 +91,9 @@
 //!
 //! 1. `specs/LineSteps.antt`: what it does, as a case of `DiscRule` where it needs a disc, else of `Step`; and whether it counts
 //!    uses (`CountsUses`). `src/inserted.rt`: its case in `Inserted::answer`.
-//! 2. `specs/Acknowledged.antt`, `specs/Register.antt`, and `specs/Survival.antt` of `ram_survival`: whether it may write a sector
-//!    (`LeavesSector`), what it does to the register (`Turn`), and whether it makes a disc anew (`KeepsDisc`); a line without a
-//!    case does none of this.
+//! 2. `specs/Acknowledged.antt`, `specs/Register.antt`, and `specs/Survival.antt` and `Living.antt` of `ram_survival`: whether it may
+//!    write a sector or a block (`LeavesSector`, `LeavesBlock`), what it does to the register (`Turn`), and whether it makes a disc
+//!    anew (`KeepsDisc`); a line without a case does none of this.
 //! 3. `proofs`: one case in each lemma that goes through the forms of a line.
 //!    - `KeptPower.antt`, `FallenBack.antt`, `Alone.antt`: what is shown while the power stays, what a block may fall back to,
 //!      and that with the cache off it is a line of a drive without one (`PlainRule` of `specs/PlainRuns.antt`).
@@ -101,6 +101,7 @@
 //!    - `StatesAfter.antt`, `LineCounts.antt`, `Labels.antt`: what the drive stands for then, the image's count, the label.
 //!    - `Acknowledged.antt`, `FairRuns.antt`, and `LastingRuns.antt` of `ram_survival`: what was acknowledged stays, dead blocks
 //!      alone are given up, and the disc stays formatted.
+//!    - `OnlyTold.antt`: it is not answered as a command that was only told that it is not done.
 //!    - `Answering.antt`: it lacks no disc where there is one.
 //!    - `SectorTurns.antt`, `SectorBoth.antt`, `SectorRuns.antt`, `SectorNothing.antt`, `SectorSettled.antt`: what it does to the
 //!      register.

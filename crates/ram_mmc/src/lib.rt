@@ -65,7 +65,8 @@
 //!    - `proofs/Judged.antt`.
 //!    - `ram_machine/proofs`: `Acknowledged.antt`, `Alone.antt`, `FairRuns.antt`, `FallenBack.antt`, `KeptPower.antt`,
 //!      `Labels.antt`, `SectorBoth.antt`, `SectorCommands.antt`, `SectorNothing.antt`, `SectorSettled.antt`; and its row in
-//!      `ram_machine/specs/PlainCommands.antt`. `ram_survival/proofs`: `LastingRuns.antt`.
+//!      `ram_machine/specs/PlainCommands.antt`. `ram_survival/proofs`: `FormattedLines.antt`, `LastingRuns.antt`,
+//!      `LivingRuns.antt`.
 //! 6. Rows of `ram_command_tests` and `tests/rows`.
 //! 7. `docs/SCRIPT.md`, `crates/ram_run/src/help.rt` and `man/ram_drive.1`.
 #![tactic(auto)]
