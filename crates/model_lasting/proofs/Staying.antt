@@ -1,9 +1,11 @@
 -- That a formatted disc stays formatted.
-use Rattle.std.specs.Prelude.{◌≡◌, ℕ, ◌+◌, ◌-◌, ◌*◌, ◌⊎◌, false, Option, Some, None, List, [], ◌∷◌, length}
+use Rattle.std.specs.Prelude.{◌≡◌, ℕ, ◌+◌, ◌*◌, ◌==◌, ◌⊎◌, false, Option, Some, None, List, [], ◌∷◌, length}
 use Rattle.std.specs.Option.{option_map_or}
 use Rattle.std.specs.List.{Contains}
 use Rattle.model_pools.proofs.Replacements.{Contains-first, Contains-later}
-use Rattle.std.proofs.Common.{refl, sym, ap, ◌∙◌, inl, inr, subst}
+use Rattle.model_pools.proofs.Listed.{Contains-filter}
+use Rattle.std.proofs.lemmas.Bool.{eq-eqb}
+use Rattle.std.proofs.Common.{arith, refl, sym, ap, ◌∙◌, inl, inr, subst}
 use Rattle.model_geometry.specs.Geometry.{Shape, dds_block, sdl_block, sdl_second_block}
 use Rattle.model_stops.specs.declared.Stop.{Stop}
 use Rattle.model_stops.specs.declared.Stop.TheVariants as stops
@@ -15,6 +17,7 @@ use Rattle.model_sectors.specs.Requests.{block_with}
 use Rattle.model_lists.specs.Values.{Dds, Sdl}
 use Rattle.model_lists.specs.declared.versions.Version.{Version}
 use Rattle.model_places.specs.Places.{Lists, count_of, logical_count}
+use Rattle.model_places.proofs.ByKind.{room_grows}
 use Rattle.model_volume.specs.Expansions.{lists_expanded}
 use Rattle.model_volume.proofs.GivenFacts.{lists_of}
 use Rattle.model_survival.proofs.Finding as finding
@@ -35,9 +38,9 @@ use Rattle.model_drive.specs.Power.{StopsInMount, PowerCause}
 use Rattle.model_drive.specs.Rewriting.{StopsInRewrite, RewriteCause}
 use Rattle.model_drive.specs.FullFormats.{FullCause}
 use Rattle.model_drive.specs.Formats.{FormatCauseBy, FormatCause}
-use Rattle.model_drive.specs.Expands.{ssa_for, StopsInExpansion, ExpandCause}
+use Rattle.model_drive.specs.Expands.{ssa_for, StaysAsLarge, StopsInExpansion, ExpandCause}
 use Rattle.model_drive.proofs.Ends.{stop_off}
-use Rattle.model_lasting.specs.Lasting.{CanBeFound, KeepsTwoCopies, StaysFormatted, TellsSize}
+use Rattle.model_lasting.specs.Lasting.{CanBeFound, KeepsTwoCopies, StaysFormatted, TellsSize, sizes_found, sizes_expanded}
 use Rattle.model_lasting.proofs.Finding.{in_use_found, by_shape, mount_ready, mount_never_bare, mount_stopped, read_stopped, rewrite_stopped, expand_stopped, write_stopped}
 use Rattle.model_fairness.proofs.Calls.{some_same, none_some}
 
@@ -146,15 +149,20 @@ module _ (old new : Shown) (version : Version) (sizes : List ℕ) (same : new.sh
       one_version = s.found.valid'.together.same_version ∙ sym s.found.valid.together.same_version ∙ s.of_version
 
       ready_stays : (known : ℕ) (lists : Lists) → new.lists ≡ Some lists → known ≡ capacity new → lists.sdl.version ≡ version → Contains sizes lists.sdl.ssa
-          → StaysFormatted new version sizes × TellsSize old.shape sizes (powers.Ready known)
-      ready_stays known lists is known_is of_version size = (on_stays new version sizes sound is_known lists is of_version size, (lists.sdl.ssa, size, capacity_told lists known is known_is))
+          → StaysFormatted new version (sizes_found old.shape (powers.Ready known) sizes) × TellsSize old.shape sizes (powers.Ready known)
+      ready_stays known lists is known_is of_version size =
+          let told = capacity_told lists known is known_is in (
+            on_stays new version (sizes_found old.shape (powers.Ready known) sizes) sound is_known lists is of_version
+                (Contains-filter (λ ssa. count_of old.shape ssa * 16 == known) sizes lists.sdl.ssa (eq-eqb (count_of old.shape lists.sdl.ssa * 16) known (sym told)) size),
+            (lists.sdl.ssa, size, told),
+          )
 
-      pub power_stays : (out : PowerOut) → PowerCause old new out → KeepsTwoCopies new version → StaysFormatted new version sizes × TellsSize old.shape sizes out
+      pub power_stays : (out : PowerOut) → PowerCause old new out → KeepsTwoCopies new version → StaysFormatted new version (sizes_found old.shape out sizes) × TellsSize old.shape sizes out
       power_stays (powers.Ready known) cause two =
           let ready = mount_ready old new s.dds s.older s.newer same known was_known s.found cause in
           by_lists ready.0 ready.1 ready.2
         where
-          by_lists : (lists : Lists) → new.lists ≡ Some lists → (lists ≡ lists_of s.dds s.older) ⊎ (lists ≡ lists_of s.dds s.newer) → StaysFormatted new version sizes × TellsSize old.shape sizes (powers.Ready known)
+          by_lists : (lists : Lists) → new.lists ≡ Some lists → (lists ≡ lists_of s.dds s.older) ⊎ (lists ≡ lists_of s.dds s.newer) → StaysFormatted new version (sizes_found old.shape (powers.Ready known) sizes) × TellsSize old.shape sizes (powers.Ready known)
           by_lists lists is (inl older) = ready_stays known lists is cause.known_is (ap (λ (l : Lists). l.sdl.version) older ∙ s.of_version) (subst (Contains sizes) (sym (ap (λ (l : Lists). l.sdl.ssa) older)) s.size)
           by_lists lists is (inr newer) = ready_stays known lists is cause.known_is (ap (λ (l : Lists). l.sdl.version) newer ∙ one_version) (subst (Contains sizes) (sym (ap (λ (l : Lists). l.sdl.ssa) newer)) s.size')
       power_stays powers.NotFormatted cause two = absurd (mount_never_bare old new s.dds s.older s.newer same was_known s.found (subst (KeepsTwoCopies new) (sym s.of_version) two) cause)
@@ -229,8 +237,17 @@ module _ (old new : Shown) (version : Version) (sizes : List ℕ) (same : new.sh
       -- ---- an expansion
 
       module _ (sectors : ℕ) where
-        wider : StaysFormatted new version sizes → StaysFormatted new version (ssa_for old.shape sectors ∷ sizes)
-        wider t = record { dds = t.dds; older = t.older; newer = t.newer; found = t.found; of_version = t.of_version; size = Contains-later (ssa_for old.shape sectors) sizes t.older.ssa t.size; size' = Contains-later (ssa_for old.shape sectors) sizes t.newer.ssa t.size'; in_use = t.in_use }
+        -- an expansion to the capacity that the disc has
+        same_size : (stays : StaysAsLarge old new sectors) → stays.lists.sdl.ssa ≡ ssa_for old.shape sectors
+        same_size stays =
+            let had = (was_sound.in_use stays.lists stays.any.in_use).valid.together.secondary.area.some_logical in
+            let room = room_grows old.shape stays.lists.sdl.ssa in
+            let present : sectors ≡ logical_count old.shape stays.lists * 16 = stays.present ∙ ap (λ (o : Option Lists). option_map_or (logical_count old.shape) o 0 * 16) stays.any.in_use in
+            omega (arith, room, present, had)
+
+        exactly : (lists : Lists) → new.lists ≡ Some lists → lists.sdl.version ≡ version → lists.sdl.ssa ≡ ssa_for old.shape sectors → StaysFormatted new version (ssa_for old.shape sectors ∷ [])
+        exactly lists is of_version size =
+            on_stays new version (ssa_for old.shape sectors ∷ []) sound is_known lists is of_version (subst (Contains (ssa_for old.shape sectors ∷ [])) (sym size) (Contains-first (ssa_for old.shape sectors) []))
 
         expand_off : (stop : Stop) → StopsInExpansion old new sectors stop → StaysFormatted new version (ssa_for old.shape sectors ∷ sizes)
         expand_off stop cause =
@@ -238,13 +255,12 @@ module _ (old new : Shown) (version : Version) (sizes : List ℕ) (same : new.sh
             off_stays new version (ssa_for old.shape sectors ∷ sizes) (stop_off old.medium new.medium _ stop cause.stopped.stops) found.0.dds found.0.sdl found.1 found.4
             (version_is found.0 cause.any.was_on found.2) (Contains-later (ssa_for old.shape sectors) sizes found.0.sdl.ssa (size_is found.0 cause.any.was_on found.2)) (subst (Contains (ssa_for old.shape sectors ∷ sizes)) (sym found.3) (Contains-first (ssa_for old.shape sectors) sizes))
 
-        pub expand_stays : (out : ExpandOut) → ExpandCause old new sectors out → StaysFormatted new version (ssa_for old.shape sectors ∷ sizes)
-        expand_stays expands.Good (inl stays) = wider (kept_stays stays.any.was_on stays.keeps)
-        expand_stays expands.Good (inr grows) = on_stays new version (ssa_for old.shape sectors ∷ sizes) sound is_known (lists_expanded old.shape grows.lists (ssa_for old.shape sectors)) grows.now_in_use
-            (version_is grows.lists grows.any.was_on grows.any.in_use) (Contains-first (ssa_for old.shape sectors) sizes)
-        expand_stays expands.NotFormatted cause = wider (nothing_stays cause.nothing)
-        expand_stays (expands.Refused known) cause = wider (nothing_stays cause.nothing)
-        expand_stays (expands.NoUpdate counter) cause = wider (kept_stays cause.any.was_on cause.keeps)
+        pub expand_stays : (out : ExpandOut) → ExpandCause old new sectors out → StaysFormatted new version (sizes_expanded old.shape sectors out sizes)
+        expand_stays expands.Good (inl stays) = exactly stays.lists (stays.keeps.same_lists ∙ stays.any.in_use) (version_is stays.lists stays.any.was_on stays.any.in_use) (same_size stays)
+        expand_stays expands.Good (inr grows) = exactly (lists_expanded old.shape grows.lists (ssa_for old.shape sectors)) grows.now_in_use (version_is grows.lists grows.any.was_on grows.any.in_use) refl
+        expand_stays expands.NotFormatted cause = nothing_stays cause.nothing
+        expand_stays (expands.Refused known) cause = nothing_stays cause.nothing
+        expand_stays (expands.NoUpdate counter) cause = kept_stays cause.any.was_on cause.keeps
         expand_stays expands.Cut cause = expand_off stops.Cut cause
-        expand_stays expands.Off cause = wider (nothing_stays cause.nothing)
+        expand_stays expands.Off cause = nothing_stays cause.nothing
         expand_stays expands.Fault cause = expand_off stops.Fault cause

@@ -1,7 +1,7 @@
 -- What holds of a drive from one call to the next, so that no cut loses its disc: its lists can be found. For the law of survival
 -- over runs. (This project's own, as all here.)
-use Rattle.std.specs.Prelude.{◌≡◌, ℕ, ◌*◌, Some, List}
-use Rattle.std.specs.List.{Contains}
+use Rattle.std.specs.Prelude.{◌≡◌, ℕ, ◌*◌, ◌==◌, Some, List, [], ◌∷◌}
+use Rattle.std.specs.List.{Contains, filter}
 use Rattle.model_geometry.specs.Geometry.{Shape}
 use Rattle.model_sectors.specs.declared.PowerOut.{PowerOut}
 use Rattle.model_sectors.specs.declared.PowerOut.TheVariants as powers
@@ -10,7 +10,10 @@ use Rattle.model_medium.specs.Cells.{Dead, cell_at}
 use Rattle.model_lists.specs.Values.{Dds, Sdl}
 use Rattle.model_places.specs.Places.{count_of}
 use Rattle.model_survival.specs.Findable.{HaveTwoCopies, IsFindable}
+use Rattle.model_drive.specs.declared.ExpandOut.{ExpandOut}
+use Rattle.model_drive.specs.declared.ExpandOut.TheVariants as expands
 use Rattle.model_drive.specs.Shown.{Shown, IsOn, cells_in}
+use Rattle.model_drive.specs.Expands.{ssa_for}
 
 -- the lists of the disc can be found: with this structure, and the older or the newer secondary list
 abbrev pub CanBeFound : Shown → Dds → Sdl → Sdl → Type 0
@@ -38,6 +41,19 @@ TellsSize shape sizes (powers.Ready known) =
     (ssa : ℕ) × Contains sizes ssa × (known ≡ count_of shape ssa * 16)
 TellsSize shape sizes powers.NotFormatted = ⊥
 TellsSize shape sizes out = Unit {0}
+
+-- The sizes that the area may have after a mount: where it told a capacity, those that give it.
+abbrev pub sizes_found : Shape → PowerOut → List ℕ → List ℕ
+sizes_found shape (powers.Ready known) sizes = filter (λ ssa. count_of shape ssa * 16 == known) sizes
+sizes_found shape out sizes = sizes
+
+-- The sizes that the area may have after an expansion that was to leave so many sectors: the one that leaves them, where it is good;
+-- that one too, where it was stopped; and else those that it might have before.
+abbrev pub sizes_expanded : Shape → (sectors : ℕ) → ExpandOut → List ℕ → List ℕ
+sizes_expanded shape sectors expands.Good sizes = ssa_for shape sectors ∷ []
+sizes_expanded shape sectors expands.Cut sizes = ssa_for shape sectors ∷ sizes
+sizes_expanded shape sectors expands.Fault sizes = ssa_for shape sectors ∷ sizes
+sizes_expanded shape sectors out sizes = sizes
 
 -- dead cells stay dead
 abbrev pub DeadStay : Shown → Shown → Type 0

@@ -17,18 +17,19 @@ ghost use Rattle.model_drive.specs.Reads.{ReadCause, VerifyCause};
 ghost use Rattle.model_drive.specs.Power.{PowerCause};
 ghost use Rattle.model_drive.specs.Writes.{WriteCause};
 ghost use Rattle.model_drive.specs.Formats.{FormatCause};
-ghost use Rattle.model_drive.specs.Expands.{ssa_for, ExpandCause};
-ghost use Rattle.model_lasting.specs.Lasting.{KeepsTwoCopies, StaysFormatted, TellsSize};
+ghost use Rattle.model_drive.specs.Expands.{ExpandCause};
+ghost use Rattle.model_lasting.specs.Lasting.{KeepsTwoCopies, StaysFormatted, TellsSize, sizes_found, sizes_expanded};
 
 /// A formatted disc stays formatted, whatever a drive is asked but a full format and however that ends, while two copies of each
 /// list have no dead cell at the end of each mount: no mount finds it unformatted. Only an expansion changes the size of its area,
-/// and so its capacity.
+/// and so its capacity: to the one that it asks for, where it is good, and to that or none, where it was stopped.
 pub fn a_formatted_disc_stays_formatted()
     ensures begins { (shown : Shown) (lists : Lists) → IsSound shown → IsKnown shown → shown.lists ≡ Some lists
         → StaysFormatted shown lists.sdl.version (lists.sdl.ssa ∷ []) }
     ensures power { (old new : Shown) (version : Version) (sizes : List ℕ) (out : PowerOut) → new.shape ≡ old.shape
         → IsSound new → IsKnown old → IsKnown new → StaysFormatted old version sizes → PowerCause old new out
-        → KeepsTwoCopies new version → StaysFormatted new version sizes × TellsSize old.shape sizes out }
+        → KeepsTwoCopies new version
+        → StaysFormatted new version (sizes_found old.shape out sizes) × TellsSize old.shape sizes out }
     ensures read { (old new : Shown) (version : Version) (sizes : List ℕ) (lba n : ℕ) (out : ReadOut)
         → new.shape ≡ old.shape
         → IsSound new → IsKnown new → StaysFormatted old version sizes → ReadCause old new lba n out
@@ -44,7 +45,7 @@ pub fn a_formatted_disc_stays_formatted()
     ensures expand { (old new : Shown) (version : Version) (sizes : List ℕ) (sectors : ℕ) (out : ExpandOut)
         → new.shape ≡ old.shape
         → IsSound old → IsSound new → IsKnown old → IsKnown new → StaysFormatted old version sizes
-        → ExpandCause old new sectors out → StaysFormatted new version (ssa_for old.shape sectors ∷ sizes) }
+        → ExpandCause old new sectors out → StaysFormatted new version (sizes_expanded old.shape sectors out sizes) }
     ensures format { (old new : Shown) (version : Version) (sizes : List ℕ) (out : FormatOut) → new.shape ≡ old.shape
         → IsSound old → IsSound new → IsKnown old → IsKnown new → StaysFormatted old version sizes
         → FormatCause old new kinds.Rewrite out → StaysFormatted new version sizes }
