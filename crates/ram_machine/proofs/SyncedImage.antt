@@ -46,7 +46,7 @@ use Rattle.ram_machine.proofs.DoneLines.{Done, line_done}
 use Rattle.ram_machine.proofs.Synced.{good_sync, sync_step}
 
 -- a block of the disc is one of n
-inside_by : (shown : Shown) (lists : Option Lists) (d : List ℕ) (i : ℕ) → StandsBy shown.shape (cells_in shown) lists shown.buffer d → HasBlock d i
+pub inside_by : (shown : Shown) (lists : Option Lists) (d : List ℕ) (i : ℕ) → StandsBy shown.shape (cells_in shown) lists shown.buffer d → HasBlock d i
     → i < option_map_or (logical_count shown.shape) lists 0
 inside_by shown None d i stands has = absurd (none_in d stands.0 has)
   where

@@ -1,1 +1,7 @@
 mod LastingRuns
+mod LivingFlushes
+mod LivingCalls
+mod FormattedLines
+mod LivingRuns
+mod SafeBlocks
+mod DrainedBlocks

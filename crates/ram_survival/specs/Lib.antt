@@ -1,1 +1,2 @@
 pub mod Survival
+pub mod Living
