@@ -193,10 +193,10 @@ class Run:
         return ["good"] + ([f"data {len(reply)} {reply.hex()}"] if reply else [])
 
 
-def run(script: bytes, image: bytes,
-        layout: LayoutKind = LayoutKind.ONE_GROUP) -> Tuple[bytes, int, bytes]:
+def run(script: bytes, image: bytes, layout: LayoutKind = LayoutKind.ONE_GROUP,
+        over: Optional[Run] = None) -> Tuple[bytes, int, bytes]:
     """The report of a script over an image, the exit status, and the image afterwards."""
-    state, report, answered, status = Run(image, layout), [], 0, Status.DONE
+    state, report, answered, status = over or Run(image, layout), [], 0, Status.DONE
     try:
         for line_number, raw in lines_of(script):
             line = line_of(raw)
