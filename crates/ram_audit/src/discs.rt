@@ -1,5 +1,7 @@
 //! The audit of an image, and the check of a text against one. Neither changes a byte of the image.
 
+ghost use Rattle.std.specs.Prelude.{◌≡◌};
+ghost use Rattle.std.specs.Prelude.{◌≡◌};
 ghost use Rattle.ram_audit.specs.Discs.{AuditRule, CheckRule};
 ghost use Rattle.ram_audit.specs.Rooms.{AreReadyToAudit};
 
@@ -7,7 +9,7 @@ use crate::certificate::tell_certificate;
 use crate::comparing::{Compared, compare};
 use crate::rooms::AuditRooms;
 use ram_image::{MediumRooms, OpenFault, Refused, open};
-use ram_outside::{Image, Source};
+use ram_outside::{Conversation, Image};
 use ram_zones::LayoutKind;
 
 /// The answer of an audit.
@@ -83,28 +85,30 @@ pub fn audit_disc<I: Image>(rooms: &mut AuditRooms, medium: MediumRooms, image: 
 ///
 /// # Clauses
 ///
-/// - its one clause (`CheckRule`): `Yes` and `No`: what the source had left is the text of the certificate, or first differs from
-///   it in that line. The source is asked once the image was read.
+/// - `rule` (`CheckRule`): `Yes` and `No`: what was left to come is the text of the certificate, or first differs from it in that
+///   line. It is asked for once the image was read.
+/// - `same`: the sink is not touched.
 ///
 /// # Answers
 ///
 /// The image is handed back with each byte as it was.
 ///
-/// - `Yes`: the source's bytes up to its end are the text of the certificate. Then: nothing is counted. (`IsCertificateText`)
+/// - `Yes`: the bytes up to their end are the text of the certificate. Then: nothing is counted. (`IsCertificateText`)
 /// - `No`: they are not; told is the line, counted from 1, of the first byte behind their common front. Then: nothing is counted.
 ///   (`DiffersFirst`)
-/// - `NotADisc`: the image is no disc's. Then: the source was not touched. (`IsNoDisc`)
-/// - `ImageFailed`: the image counted a failure. Then: the source was not touched. (`ImageFails`)
-/// - `SourceFailed`: the source counted a failure. Then: the image counted none. (`CheckRule`)
-pub fn check_disc<I: Image, S: Source>(
+/// - `NotADisc`: the image is no disc's. Then: nothing was asked for. (`IsNoDisc`)
+/// - `ImageFailed`: the image counted a failure. Then: nothing was asked for. (`ImageFails`)
+/// - `SourceFailed`: what was to come counted a failure. Then: the image counted none. (`CheckRule`)
+pub fn check_disc<I: Image, T: Conversation>(
     rooms: &mut AuditRooms,
     medium: MediumRooms,
     image: I,
-    source: &mut S,
+    talk: &mut T,
 ) -> (I, Checked)
     requires { AreReadyToAudit rooms.old }
-    ensures { CheckRule (I.bytes image) (I.bytes result.0) (I.faults image) (I.faults result.0)
-        (S.left source.old) (S.left source.new) (S.faults source.old) (S.faults source.new) result.1 }
+    ensures rule { CheckRule (I.bytes image) (I.bytes result.0) (I.faults image) (I.faults result.0)
+        (T.left talk.old) (T.left talk.new) (T.faults talk.old) (T.faults talk.new) result.1 }
+    ensures same { T.report talk.new ≡ T.report talk.old }
 {
     let (image, audited) = audit_disc(rooms, medium, image);
     match audited {
@@ -112,7 +116,7 @@ pub fn check_disc<I: Image, S: Source>(
         Audited::Failed => (image, Checked::ImageFailed),
         Audited::Told => {
             let room = rooms.scratch.room.bytes_mut();
-            match compare(source, rooms.lines.text(), room) {
+            match compare(talk, rooms.lines.text(), room) {
                 Compared::Same => (image, Checked::Yes),
                 Compared::Differs { line } => (image, Checked::No { line }),
                 Compared::Failed => (image, Checked::SourceFailed),

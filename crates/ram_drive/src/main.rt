@@ -5,7 +5,7 @@
 
 use ram_bytes::Budget;
 use ram_machine::status::Status;
-use ram_outside::{FileOpener, StdSink, StdSource};
+use ram_outside::{BothEnds, FileOpener, StdSink, StdSource};
 use ram_run::rooms::{MOST_BYTES, Rooms};
 use ram_run::run::run;
 use std::fs::File;
@@ -67,16 +67,9 @@ where
         Ok(rooms) => rooms,
         Err(_) => return Ok(Status::NoMemory),
     };
-    let mut script = StdSource::new(rt);
-    let mut report = StdSink::new(rt);
+    let mut talk = BothEnds::new(StdSource::new(rt), StdSink::new(rt));
     let mut opener = FileOpener::new(rt);
-    Ok(run(
-        rooms,
-        texts.as_slice(),
-        &mut script,
-        &mut report,
-        &mut opener,
-    ))
+    Ok(run(rooms, texts.as_slice(), &mut talk, &mut opener))
 }
 
 /// The status where the words or their rooms could not be taken: there was no memory, or one of the words is no text.

@@ -1,7 +1,10 @@
 pub mod Source
 pub mod Sink
+pub mod Conversation
+pub mod BothEnds
 pub mod Image
 pub mod Opener
 pub mod Calls
 pub mod Memory
+pub mod MemConversation
 pub mod Adapters

@@ -1,5 +1,5 @@
-//! What a drive needs of the world outside it: a source of script bytes, a sink for the report, an image's
-//! bytes, and an opener of images. The traits say what each call may do; each failure is counted.
+//! What a drive needs of the world outside it: a conversation, which a source of script bytes and a sink for the report make; an image's
+//! bytes; and an opener of images. The traits say what each call may do; each failure is counted.
 //!
 //! Three things are known of such an object: its bytes, where the object makes them known; a count of its failures; and the
 //! answer of the call.
@@ -9,16 +9,19 @@
 //!
 //! # What is proved
 //!
-//! - every call of the four traits, `count` in each rule: An answer other than `Failed` leaves the count exactly as it was.
+//! - every call of the traits, `count` in each rule: An answer other than `Failed` leaves the count exactly as it was.
 //!   `Failed` comes only where the count rose, or stands at 2^64 - 1. So a failure cannot be passed over.
 //! - `MemImage`, `GivesLengthExactly`, `ReadsImageExactly`, `WritesImageExactly`, `ResizesExactly`: Which call fails. A call that
 //!   fails changes no byte of the image, and a read that fails changes none of the slice.
 //! - `MemOpener`, `OpensExactly`, `after_close`: It gives its image once, whatever the name, and keeps each name that it was
 //!   asked for. Where memory for the name is refused it fails, and asked for nothing.
+//! - `Conversation::take`, `AsksNow`: It notes what was left to come and what was written before. The sink is a part of a conversation:
+//!   whoever writes to it changes nothing else of it (`HoldsReport`).
+//! - `MemConversation`: It keeps how it stood whenever more was asked for, unless memory for that is refused; `BothEnds` does not.
 //! - `StdSource`, `StdSink`, `FileImage`, `FileOpener`, `rule`, `count`: They obey their trait, with no bytes known. The count
 //!   rises by one exactly where the call failed.
 //!
-//! The definitions stand in `specs/`: one file for each trait, `Memory.antt` and `Calls.antt` for the forms in memory,
+//! The definitions stand in `specs/`: one file for each trait, `Memory.antt`, `MemConversation.antt` and `Calls.antt` for the forms in memory,
 //! `Adapters.antt` for the adapters.
 //!
 //! # What is neither
@@ -39,6 +42,7 @@
 //! its range.
 #![tactic(auto)]
 
+pub mod conversation;
 mod errors;
 pub mod file;
 pub mod image;
@@ -48,9 +52,10 @@ pub mod sink;
 pub mod source;
 pub mod standard;
 
+pub use conversation::{BothEnds, Conversation};
 pub use file::{FileImage, FileOpener};
 pub use image::{Image, Length, Moved};
-pub use memory::{MemImage, MemOpener, MemSink, MemSource};
+pub use memory::{MemAsked, MemConversation, MemImage, MemOpener, MemSink, MemSource};
 pub use opener::{Access, Opened, Opener};
 pub use sink::{Put, Sink};
 pub use source::{Source, Take};

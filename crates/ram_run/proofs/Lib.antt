@@ -1,3 +1,4 @@
 pub mod Few
 pub mod Promised
 pub mod PromisedByRun
+pub mod Heard

@@ -113,7 +113,7 @@ module _ {I : Type 0} (bytes_of : I → Option (List ℕ)) (knows : Bool) (old n
   }
     where
       untouched : IsUntouched old new
-      untouched = subst (λ (s : Surroundings I). IsUntouched old s) same (record { unused = record { unread = refl; unopened = refl }; unwritten = refl })
+      untouched = subst (λ (s : Surroundings I). IsUntouched old s) same (record { unused = record { unread = refl; unasked = refl; unopened = refl }; unwritten = refl })
 
   module _ (of : IsOfRun status) (causes : StatusCounts old.counts new.counts status) where
     -- the help is told

@@ -1,8 +1,10 @@
 -- What the program promises, by its words: the contract of the public call `run`. (This project's own, as all here.)
 use Rattle.std.specs.Prelude.{◌≡◌, ℕ, ◌⊎◌, Bool, Option, List}
 use Rattle.model_geometry.specs.declared.kinds.LayoutKind.{LayoutKind}
+use Rattle.ram_outside.specs.Conversation.{AsksOnly}
 use Rattle.ram_outside.specs.declared.opener.Access.TheVariants.{ReadWrite}
 use Rattle.ram_machine.specs.declared.status.Status.{Status}
+use Rattle.ram_script.specs.Asking.{IsAnsweredBy}
 use Rattle.ram_script.specs.Around.{Surroundings, IsNotOpened, UntouchedByUsage, TellsText, AsksOnce}
 use Rattle.ram_script.specs.Completes.{IsInLanguage, BeginsWithDisc, NoneRose, IsComplete}
 use Rattle.ram_script.specs.Endings.{IsUnopened, StandsWith, StatusCounts}
@@ -18,14 +20,17 @@ use Rattle.ram_run.specs.Words.{IsServedOf, IsGenerateOf, IsAuditOf, IsCheckOf, 
 module _ {I : Type 0} (bytes_of : I → Option (List ℕ)) (knows : Bool) (old new : Surroundings I) (status : Status) where
   -- What is promised of a script that runs over the image of this name, whose discs have a layout of this kind: the opener is asked
   -- for that image, once, to be read and written. Where script, report and image are known, the report is the text of the answers and
-  -- the image that of the last state (`run`), or no image was opened; each sector is a register (`promise`); and a script in the
-  -- language runs to its end over a disc, where nothing fails (`completes`).
+  -- the image that of the last state (`run`), or no image was opened; each sector is a register (`promise`); whenever more of the script is
+  -- asked for, all answers to the whole lines that came by then are written (`talks`); and a script in the language runs to its end over a
+  -- disc, where nothing fails (`completes`).
   pub record RunsScript (kind : LayoutKind) (name : List ℕ) : Type 0 where
     pub asks : AsksOnce old new ReadWrite name status
     pub run : (first : Beginning) → first.kind ≡ kind → IsBeginning bytes_of first old knows
         → StandsWith first (aftermath_of bytes_of new) old.counts new.counts status ⊎ (IsUnopened status × IsNotOpened old new)
     pub promise : (first : Beginning) → first.kind ≡ kind → IsBeginning bytes_of first old knows
         → KeepsBytes first.script first.report first.image new.written
+    pub talks : (first : Beginning) → first.kind ≡ kind → IsBeginning bytes_of first old knows
+        → AsksOnly (IsAnsweredBy first) old.asked new.asked
     pub completes : (first : Beginning) → first.kind ≡ kind → IsBeginning bytes_of first old knows
         → IsInLanguage first.script → BeginsWithDisc first → NoneRose old.counts new.counts → IsComplete status
 

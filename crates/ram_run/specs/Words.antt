@@ -8,8 +8,6 @@ use Rattle.model_geometry.specs.declared.kinds.LayoutKind.{LayoutKind}
 use Rattle.model_geometry.specs.declared.kinds.LayoutKind.TheVariants.{OneGroup, EachZone}
 use Rattle.ram_outside.specs.Opener.{OpenerView, opener_view, and_asked}
 use Rattle.ram_outside.specs.declared.opener.Opener.{Ghosts as Openers}
-use Rattle.ram_outside.specs.declared.sink.Sink.{Ghosts as Sinks}
-use Rattle.ram_outside.specs.declared.source.Source.{Ghosts as Sources}
 use Rattle.ram_text.specs.ScriptWords.{decimal_value}
 use Rattle.ram_script.specs.RunCounts.{Counts, counts_of}
 use Rattle.ram_run.specs.declared.form.Form.{Form}

@@ -15,7 +15,7 @@
 //! # The call `run`
 //!
 //! [HEADLINE](../../docs/HEADLINE.md#the-clauses-of-run) has the clauses of `run`. Those on a script speak of `run` or `groups`
-//! and a name, where source, sink, opener and image tell their bytes. With ImageFault the opener may not have been asked at all;
+//! and a name, where conversation, opener and image tell their bytes. With ImageFault the opener may not have been asked at all;
 //! then nothing was opened, read or written. Else what stands with each status is told at the heads of
 //! `ram_script`, for `generate` of `ram_summary`, and for `audit` and `check` of `ram_certificate`.
 //!

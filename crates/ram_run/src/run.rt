@@ -1,6 +1,8 @@
 //! What the program does for each form of its words.
 ghost use Rattle.std.specs.Prelude.{◌≡◌, ◌⊎◌, ℕ, List, map};
 ghost use Rattle.ram_outside.specs.declared.opener.Access.TheVariants.{ReadWrite};
+ghost use Rattle.ram_outside.specs.Conversation.{AsksOnly};
+ghost use Rattle.ram_script.specs.Asking.{IsAnsweredBy};
 ghost use Rattle.ram_script.specs.Progress.{Beginning};
 ghost use Rattle.ram_script.specs.Around.{IsNotOpened, AsksOnce, around};
 ghost use Rattle.ram_script.specs.Endings.{IsUnopened, IsOfRun, StandsWith, StatusCounts};
@@ -16,7 +18,7 @@ use ram_cache::Cached;
 use ram_certificate::{audit_image, check_image};
 use ram_image::ImageMedium;
 use ram_machine::status::Status;
-use ram_outside::{Opened, Opener, Sink, Source};
+use ram_outside::{Conversation, Opened, Opener};
 use ram_script::serve::serve;
 use ram_script::{ScriptRooms, write_text};
 use ram_summary::generate_image;
@@ -66,36 +68,37 @@ use ram_volume::Volume;
 ///
 /// Of `--help` and `--version` (`TellsText`). `Done`: the text is written. `SinkFault`: a beginning of it is. Nothing is opened or
 /// read.
-pub fn run<S: Source, K: Sink, O: Opener>(
+pub fn run<T: Conversation, O: Opener>(
     rooms: Rooms,
     words: &[&str],
-    script: &mut S,
-    report: &mut K,
+    talk: &mut T,
     opener: &mut O,
 ) -> Status
     requires rooms { AreRoomsFor (map (λ word. word.now) words.now) rooms }
     ensures keeps { Promises O.Image.bytes O.returned_known
-        (around S.Source K.Sink O.Opener script.old report.old opener.old)
-        (around S.Source K.Sink O.Opener script.new report.new opener.new) result
+        (around T.Conversation T.Sink.Sink O.Opener talk.old opener.old)
+        (around T.Conversation T.Sink.Sink O.Opener talk.new opener.new) result
         (map (λ word. word.now) words.now) }
 {
     match form_of(words) {
         Some(Form::Run(kind, name)) => {
             let rooms = of_script(rooms, kind);
-            run_image(rooms, name, script, report, opener)
+            run_image(rooms, name, talk, opener)
         }
         Some(Form::Generate(name, seed)) => {
-            generate_image(of_number(rooms), name, seed, report, opener)
+            generate_image(of_number(rooms), name, seed, talk.report_mut(), opener)
         }
-        Some(Form::Audit(name)) => audit_image(of_certificate(rooms), name, report, opener),
-        Some(Form::Check(name)) => check_image(of_certificate(rooms), name, script, report, opener),
+        Some(Form::Audit(name)) => {
+            audit_image(of_certificate(rooms), name, talk.report_mut(), opener)
+        }
+        Some(Form::Check(name)) => check_image(of_certificate(rooms), name, talk, opener),
         Some(Form::Help) => {
             drop(rooms);
-            write_text(report, HELP)
+            write_text(talk.report_mut(), HELP)
         }
         Some(Form::Version) => {
             drop(rooms);
-            write_text(report, VERSION)
+            write_text(talk.report_mut(), VERSION)
         }
         None => {
             drop(rooms);
@@ -106,31 +109,34 @@ pub fn run<S: Source, K: Sink, O: Opener>(
 
 /// Answers the script over the image of this name, whose discs have a layout of the kind that the rooms are for. The image is closed
 /// on every way out.
-fn run_image<S: Source, K: Sink, O: Opener>(
+fn run_image<T: Conversation, O: Opener>(
     rooms: ScriptRooms,
     name: &str,
-    script: &mut S,
-    report: &mut K,
+    talk: &mut T,
     opener: &mut O,
 ) -> Status
     requires ready { AreReady rooms.target.drive.kind rooms }
     ensures other { IsOfRun result }
     ensures causes { StatusCounts
-        (around S.Source K.Sink O.Opener script.old report.old opener.old).counts
-        (around S.Source K.Sink O.Opener script.new report.new opener.new).counts result }
+        (around T.Conversation T.Sink.Sink O.Opener talk.old opener.old).counts
+        (around T.Conversation T.Sink.Sink O.Opener talk.new opener.new).counts result }
     ensures asks { AsksOnce
-        (around S.Source K.Sink O.Opener script.old report.old opener.old)
-        (around S.Source K.Sink O.Opener script.new report.new opener.new) ReadWrite name.now result }
+        (around T.Conversation T.Sink.Sink O.Opener talk.old opener.old)
+        (around T.Conversation T.Sink.Sink O.Opener talk.new opener.new) ReadWrite name.now result }
     ensures run { (first : Beginning) → first.kind ≡ rooms.target.drive.kind
         → IsBeginning O.Image.bytes first
-        (around S.Source K.Sink O.Opener script.old report.old opener.old) O.returned_known
+        (around T.Conversation T.Sink.Sink O.Opener talk.old opener.old) O.returned_known
         → StandsWith first (aftermath_of O.Image.bytes
-        (around S.Source K.Sink O.Opener script.new report.new opener.new))
-        (around S.Source K.Sink O.Opener script.old report.old opener.old).counts
-        (around S.Source K.Sink O.Opener script.new report.new opener.new).counts result
+        (around T.Conversation T.Sink.Sink O.Opener talk.new opener.new))
+        (around T.Conversation T.Sink.Sink O.Opener talk.old opener.old).counts
+        (around T.Conversation T.Sink.Sink O.Opener talk.new opener.new).counts result
         ⊎ (IsUnopened result × IsNotOpened
-        (around S.Source K.Sink O.Opener script.old report.old opener.old)
-        (around S.Source K.Sink O.Opener script.new report.new opener.new)) }
+        (around T.Conversation T.Sink.Sink O.Opener talk.old opener.old)
+        (around T.Conversation T.Sink.Sink O.Opener talk.new opener.new)) }
+    ensures talks { (first : Beginning) → first.kind ≡ rooms.target.drive.kind
+        → IsBeginning O.Image.bytes first
+        (around T.Conversation T.Sink.Sink O.Opener talk.old opener.old) O.returned_known
+        → AsksOnly (IsAnsweredBy first) (T.asked talk.old) (T.asked talk.new) }
 {
     let ScriptRooms {
         mut state,
@@ -140,8 +146,8 @@ fn run_image<S: Source, K: Sink, O: Opener>(
     match opener.open(name) {
         Opened::Failed => Status::ImageFault,
         Opened::Image(image) => {
-            let mut dialogue = Dialogue::new(script, report, &mut room);
-            let (image, status) = serve::<Cached<Volume<ImageMedium<O::Image>>>, S, K>(
+            let mut dialogue = Dialogue::new(talk, &mut room);
+            let (image, status) = serve::<Cached<Volume<ImageMedium<O::Image>>>, T>(
                 target,
                 image,
                 &mut state,

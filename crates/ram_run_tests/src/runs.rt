@@ -1,7 +1,7 @@
 //! One run over objects in memory, and what it leaves.
 use ram_bytes::Budget;
 use ram_machine::status::Status;
-use ram_outside::{MemImage, MemOpener, MemSink, MemSource, Opener, Sink, Source};
+use ram_outside::{BothEnds, Conversation, MemImage, MemOpener, MemSink, MemSource, Opener};
 use ram_run::rooms::Rooms;
 use ram_run::run::run;
 use std::alloc::{AllocError, Global};
@@ -83,15 +83,14 @@ pub fn run_words(alloc: Global, words: &str, failure: Option<Failure>) -> Result
 }
 
 /// Runs the words of the program. It stands between `run` and its callers, so that these see nothing of its contract.
-fn run_program<S: Source, K: Sink, O: Opener>(
+fn run_program<T: Conversation, O: Opener>(
     alloc: Global,
     words: &[&str],
-    script: &mut S,
-    report: &mut K,
+    talk: &mut T,
     opener: &mut O,
 ) -> Result<Status, AllocError> {
     let rooms = Rooms::new(&mut Budget::ample(alloc), words)?;
-    Ok(run(rooms, words, script, report, opener))
+    Ok(run(rooms, words, talk, opener))
 }
 
 /// Runs the words of the program over a script and the image that the opener gives.
@@ -102,8 +101,9 @@ fn run_over(
     report: MemSink,
     opener: MemOpener,
 ) -> Result<Ran, AllocError> {
-    let (mut script, mut report, mut opener) = (script, report, opener);
-    let status = run_program(alloc, words, &mut script, &mut report, &mut opener)?;
+    let (mut talk, mut opener) = (BothEnds::new(script, report), opener);
+    let status = run_program(alloc, words, &mut talk, &mut opener)?;
+    let (script, report) = talk.into_parts();
     what_is_left(alloc, status, script.calls(), &report, &opener)
 }
 

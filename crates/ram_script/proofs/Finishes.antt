@@ -7,12 +7,12 @@ use Rattle.model_geometry.specs.declared.kinds.LayoutKind.{LayoutKind}
 use Rattle.ram_report.proofs.Puts.{append_known-twice}
 use Rattle.ram_report.specs.ReportLines.{last_text}
 use Rattle.ram_report.specs.Writer.{IsCutShort}
-use Rattle.ram_text.specs.Dialogue.{dialogue_room, gathered_of, sink_of, source_of}
+use Rattle.ram_text.specs.Dialogue.{dialogue_room, gathered_of, sink_of, talk_of}
 use Rattle.ram_text.specs.DialogueRoom.{IsEmptyRoom}
 use Rattle.ram_text.specs.declared.dialogue.Dialogue.{Dialogue}
 use Rattle.ram_report.specs.declared.gathered.TheConstants.{GATHERED_ROOM}
 use Rattle.ram_outside.specs.declared.sink.Sink.{Ghosts as Sinks}
-use Rattle.ram_outside.specs.declared.source.Source.{Ghosts as Sources}
+use Rattle.ram_outside.specs.declared.conversation.Conversation.{Ghosts as Conversations}
 use Rattle.model_counts.specs.Counts.{Rose}
 use Rattle.ram_report.specs.declared.gathered.Print.TheVariants as prints
 use Rattle.ram_report.specs.declared.printing.LastLine.{LastLine}
@@ -50,7 +50,7 @@ append_known-nil None = refl
 append_known-nil (Some bytes) = ap Some (append-nil bytes)
 
 -- what is due is known, so it is the answers so far
-told : {first : Beginning} (far : SoFar first) (due : Option (List ℕ)) → is_some due ≡ true → IsDue far due → IsReported far due
+pub told : {first : Beginning} (far : SoFar first) (due : Option (List ℕ)) → is_some due ≡ true → IsDue far due → IsReported far due
 told far None known is = absurd (false≢true known)
 told far (Some text) known is = ap Some is
 
@@ -118,17 +118,17 @@ pub where_known : (written : Option (List ℕ)) (report : List ℕ) → written 
 where_known written report is = subst (λ (o : Option (List ℕ)). IfSome o (λ text. text ≡ report)) (sym is) refl
 
 -- the lines begin with nothing read and nothing gathered
-pub begins : {S K : Type 0} (sources : Sources S) (sinks : Sinks K) (first : Beginning) (kind : LayoutKind) (stands : State → Type 0) (dialogue : Dialogue S K) (state : RunState) → first.kind ≡ kind → IsFresh state → IsEmptyRoom (dialogue_room dialogue)
-    → sources.left (source_of dialogue) ≡ Some first.script → IfSome (sinks.written (sink_of dialogue)) (λ text. text ≡ first.report)
-    → StandsFirst kind first.image stands → Between first stands (run_view sources sinks dialogue state.tally)
-begins sources sinks first kind stands dialogue state same fresh empty left_is written_is start = record {
+pub begins : {T K : Type 0} (talks : Conversations T K) (sinks : Sinks K) (first : Beginning) (kind : LayoutKind) (stands : State → Type 0) (dialogue : Dialogue T K) (state : RunState) → first.kind ≡ kind → IsFresh state → IsEmptyRoom (dialogue_room dialogue)
+    → talks.left (talk_of dialogue) ≡ Some first.script → IfSome (sinks.written (sink_of talks dialogue)) (λ text. text ≡ first.report)
+    → StandsFirst kind first.image stands → Between first stands (run_view talks sinks dialogue state.tally)
+begins talks sinks first kind stands dialogue state same fresh empty left_is written_is start = record {
   far = record { start = start.state; events = []; now = start.state; rest = first.script; starts = start.first; kind_is = start.kind_is ∙ sym same; run = refl; lines = inl refl; within = omega arith };
   stands_now = start.stands_first;
   at = record {
-    left_is = ap (λ l. prepend_known l (sources.left (source_of dialogue))) empty.buffered ∙ ap (prepend_known []) left_is;
+    left_is = ap (λ l. prepend_known l (talks.left (talk_of dialogue))) empty.buffered ∙ ap (prepend_known []) left_is;
     taken_is = ap (λ n. n + length first.script) empty.taken ∙ omega arith;
     tallied = record { lines = ap (λ (t : Tally). t.lines) fresh.tally; answered = ap (λ (t : Tally). t.answered) fresh.tally; counts = ap (λ (t : Tally). t.counts) fresh.tally };
-    due_is = nothing_gathered (sinks.written (sink_of dialogue)) (gathered_of dialogue) first.report empty.gathered written_is;
+    due_is = nothing_gathered (sinks.written (sink_of talks dialogue)) (gathered_of dialogue) first.report empty.gathered written_is;
   };
 }
 

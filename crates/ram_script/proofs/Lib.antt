@@ -10,3 +10,4 @@ pub mod Left
 pub mod Promised
 pub mod Told
 pub mod Closes
+pub mod Asking

@@ -1,4 +1,4 @@
--- What is known of source, sink and opener around a call that runs something, and what is done with them. (This project's own, as all here.)
+-- What is known of a conversation and an opener around a call that runs something, and what is done with them. (This project's own, as all here.)
 use Rattle.std.specs.Prelude.{◌≡◌, ℕ, ◌⊎◌, Option, List, take}
 use Rattle.std.specs.Io.KnownBytes.{append_known}
 use Rattle.model_counts.specs.Counts.{Rose}
@@ -6,7 +6,8 @@ use Rattle.ram_outside.specs.Opener.{OpenerView, opener_view, and_asked}
 use Rattle.ram_outside.specs.declared.opener.Access.{Access}
 use Rattle.ram_outside.specs.declared.opener.Opener.{Ghosts as Openers}
 use Rattle.ram_outside.specs.declared.sink.Sink.{Ghosts as Sinks}
-use Rattle.ram_outside.specs.declared.source.Source.{Ghosts as Sources}
+use Rattle.ram_outside.specs.Conversation.{Asked}
+use Rattle.ram_outside.specs.declared.conversation.Conversation.{Ghosts as Conversations}
 use Rattle.ram_script.specs.RunCounts.{Counts, counts_of}
 use Rattle.ram_machine.specs.declared.status.Status.{Status}
 use Rattle.ram_machine.specs.declared.status.Status.TheVariants as statuses
@@ -23,28 +24,32 @@ TextCount faults faults' statuses.Done = faults' ≡ faults
 TextCount faults faults' statuses.SinkFault = Rose faults faults'
 TextCount faults faults' _ = ⊥
 
--- What is known of source, sink and opener, and how often each has failed.
+-- What is known of a conversation and an opener: what is left to come, what was written, when more was asked for, and how often each part
+-- has failed.
 pub record Surroundings (I : Type 0) : Type 0 where
   pub left : Option (List ℕ)
   pub written : Option (List ℕ)
+  pub asked : Option (List Asked)
   pub opener : OpenerView I
   pub counts : Counts
 
-module _ {S K O I : Type 0} (sources : Sources S) (sinks : Sinks K) (openers : Openers O I) where
+module _ {T K O I : Type 0} (talks : Conversations T K) (sinks : Sinks K) (openers : Openers O I) where
   -- the surroundings that these are
-  abbrev pub around : S → K → O → Surroundings I
-  around script report opener = record {
-    left = sources.left script;
-    written = sinks.written report;
+  abbrev pub around : T → O → Surroundings I
+  around talk opener = record {
+    left = talks.left talk;
+    written = sinks.written (talks.report talk);
+    asked = talks.asked talk;
     opener = opener_view (openers.next opener) (openers.returned opener) (openers.asked opener) (openers.faults opener);
-    counts = counts_of (sources.faults script) (sinks.faults report) (openers.faults opener);
+    counts = counts_of (talks.faults talk) (sinks.faults (talks.report talk)) (openers.faults opener);
   }
 
 -- What is done of a run, by what is known before and after.
 module _ {I : Type 0} (old new : Surroundings I) where
-  -- nothing was opened or read
+  -- nothing was opened, asked for or read
   pub record IsUnused : Type 0 where
     pub unread : new.left ≡ old.left
+    pub unasked : new.asked ≡ old.asked
     pub unopened : new.opener ≡ old.opener
 
   -- nothing was opened, read or written

@@ -13,3 +13,4 @@ pub mod Printed
 pub mod Around
 pub mod Opened
 pub mod Rooms
+pub mod Asking

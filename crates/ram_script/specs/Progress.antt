@@ -6,8 +6,8 @@ use Rattle.model_geometry.specs.declared.kinds.LayoutKind.{LayoutKind}
 use Rattle.ram_text.specs.Lines.{HasNoFeed}
 use Rattle.ram_text.specs.Script.{Reads}
 use Rattle.ram_outside.specs.declared.sink.Sink.{Ghosts as Sinks}
-use Rattle.ram_outside.specs.declared.source.Source.{Ghosts as Sources}
-use Rattle.ram_text.specs.Dialogue.{reader_of, source_of, due_in}
+use Rattle.ram_outside.specs.declared.conversation.Conversation.{Ghosts as Conversations}
+use Rattle.ram_text.specs.Dialogue.{reader_of, talk_of, due_in}
 use Rattle.ram_text.specs.declared.dialogue.Dialogue.{Dialogue}
 use Rattle.ram_text.specs.declared.lines.TheConstants.{SCRIPT_LIMIT}
 use Rattle.ram_report.specs.declared.printing.LastLine.{LastLine}
@@ -60,8 +60,7 @@ pub record IsTallied {first : Beginning} (far : SoFar first) (tally : Tally) : T
   pub answered : tally.answered ≡ answered_in far.events
   pub counts : tally.counts ≡ counts_in far.events
 
--- What is known of the script and the report: the bytes that came from the source and are not taken yet, what the source
--- has left, what is written and gathered, and how many bytes and lines were taken.
+-- What is known of the script and the report: the bytes that came and are not taken yet, what is left to come, what is written and gathered, and how many bytes and lines were taken.
 pub record View : Type 0 where
   pub buffered : List ℕ
   pub left : Option (List ℕ)
@@ -73,13 +72,13 @@ pub record View : Type 0 where
 abbrev pub unread : View → Option (List ℕ)
 unread view = prepend_known view.buffered view.left
 
-module _ {S K : Type 0} (sources : Sources S) (sinks : Sinks K) where
+module _ {T K : Type 0} (talks : Conversations T K) (sinks : Sinks K) where
   -- the view of a run with this dialogue, of which n lines came
-  abbrev pub run_view : Dialogue S K → Tally → View
+  abbrev pub run_view : Dialogue T K → Tally → View
   run_view dialogue tally = record {
     buffered = (reader_of dialogue).buffered;
-    left = sources.left (source_of dialogue);
-    due = due_in sources sinks dialogue;
+    left = talks.left (talk_of dialogue);
+    due = due_in talks sinks dialogue;
     taken = (reader_of dialogue).taken;
     tally = tally;
   }

@@ -2,8 +2,8 @@
 use Rattle.std.specs.Prelude.{◌≡◌, ℕ, Result, Ok, Err}
 use Rattle.model_counts.specs.Counts.{Rose}
 use Rattle.ram_outside.specs.declared.sink.Sink.{Ghosts as Sinks}
-use Rattle.ram_outside.specs.declared.source.Source.{Ghosts as Sources}
-use Rattle.ram_text.specs.Dialogue.{sink_of, source_of}
+use Rattle.ram_outside.specs.declared.conversation.Conversation.{Ghosts as Conversations}
+use Rattle.ram_text.specs.Dialogue.{sink_of, talk_of}
 use Rattle.ram_text.specs.declared.dialogue.Dialogue.{Dialogue}
 use Rattle.ram_machine.specs.declared.reply.Reply.{Reply}
 use Rattle.ram_machine.specs.declared.stopped.Stopped.{Stopped}
@@ -19,11 +19,11 @@ pub record Counts : Type 0 where
 abbrev pub counts_of : ℕ → ℕ → ℕ → Counts
 counts_of source sink image = record { source = source; sink = sink; image = image }
 
-module _ {S K : Type 0} (sources : Sources S) (sinks : Sinks K) where
+module _ {T K : Type 0} (talks : Conversations T K) (sinks : Sinks K) where
   -- the counts of a dialogue's source and sink, and that of the image
-  abbrev pub counts_with : Dialogue S K → ℕ → Counts
+  abbrev pub counts_with : Dialogue T K → ℕ → Counts
   counts_with dialogue image =
-      counts_of (sources.faults (source_of dialogue)) (sinks.faults (sink_of dialogue)) image
+      counts_of (talks.faults (talk_of dialogue)) (sinks.faults (sink_of talks dialogue)) image
 
 -- every count is as it was: nothing failed
 pub record SameCounts (before after : Counts) : Type 0 where

@@ -6,7 +6,7 @@ ghost use Rattle.ram_script.specs.Endings.{status_of, sink_view, IsOfRun, LastLi
 use crate::state::Tally;
 use ram_machine::Stopped;
 use ram_machine::status::Status;
-use ram_outside::{Sink, Source};
+use ram_outside::Conversation;
 use ram_report::{LastLine, Print};
 use ram_text::Dialogue;
 
@@ -37,18 +37,18 @@ pub fn status_of(ending: Result<(), Stopped>) -> Status
 /// # Clauses
 ///
 /// - `rule`: The last line, where there is one, is printed, and all that is due is handed over.
-pub fn finish<S: Source, K: Sink>(
-    dialogue: &mut Dialogue<S, K>,
+pub fn finish<T: Conversation>(
+    dialogue: &mut Dialogue<T>,
     tally: Tally,
     ending: Result<(), Stopped>,
 ) -> Status
     requires { tally.lines < 2 ^ 64 - 1 }
     ensures other { IsOfRun result }
     ensures ends { HasSameEnds dialogue.old dialogue.new }
-    ensures nothing { AsksNothing dialogue.old dialogue.new }
-    ensures rule { FinishRule (due_in S.Source K.Sink dialogue.old)
-        (sink_view (K.written (sink_of dialogue.old)) (K.faults (sink_of dialogue.old)))
-        (sink_view (K.written (sink_of dialogue.new)) (K.faults (sink_of dialogue.new))) tally ending result }
+    ensures nothing { AsksNothing T.Conversation dialogue.old dialogue.new }
+    ensures rule { FinishRule (due_in T.Conversation T.Sink.Sink dialogue.old)
+        (sink_view (T.Sink.written (sink_of T.Conversation dialogue.old)) (T.Sink.faults (sink_of T.Conversation dialogue.old)))
+        (sink_view (T.Sink.written (sink_of T.Conversation dialogue.new)) (T.Sink.faults (sink_of T.Conversation dialogue.new))) tally ending result }
 {
     match print_ending(dialogue, tally, ending) {
         Print::Failed => return Status::SinkFault,
@@ -61,16 +61,16 @@ pub fn finish<S: Source, K: Sink>(
 }
 
 /// Prints the last line of a report, where there is one.
-fn print_ending<S: Source, K: Sink>(
-    dialogue: &mut Dialogue<S, K>,
+fn print_ending<T: Conversation>(
+    dialogue: &mut Dialogue<T>,
     tally: Tally,
     ending: Result<(), Stopped>,
 ) -> Print
     requires { tally.lines < 2 ^ 64 - 1 }
     ensures ends { HasSameEnds dialogue.old dialogue.new }
-    ensures nothing { AsksNothing dialogue.old dialogue.new }
-    ensures rule { LastLineRule (due_in S.Source K.Sink dialogue.old) (due_in S.Source K.Sink dialogue.new)
-        (K.faults (sink_of dialogue.old)) (K.faults (sink_of dialogue.new)) tally ending result }
+    ensures nothing { AsksNothing T.Conversation dialogue.old dialogue.new }
+    ensures rule { LastLineRule (due_in T.Conversation T.Sink.Sink dialogue.old) (due_in T.Conversation T.Sink.Sink dialogue.new)
+        (T.Sink.faults (sink_of T.Conversation dialogue.old)) (T.Sink.faults (sink_of T.Conversation dialogue.new)) tally ending result }
 {
     let line = tally.lines + 1;
     let last = match ending {

@@ -12,8 +12,8 @@
 //! - A run of lines is a list of events, newest first, from the first state to the last. One turn of the loop takes a line,
 //!   answers it, prints its reply, and extends the run by one event. The text of the report has the same recursion as the run.
 //! - The loop's invariant is that what was read so far is such a run, and that what was written and gathered so far is its text.
-//! - The loop has neither source nor sink, but a dialogue between the two (`Dialogue` of `ram_text`). It hands answers over
-//!   before it asks for more: its reader requires that its writer, the only one that reaches the sink, has nothing gathered.
+//! - The loop has the conversation line by line (`Dialogue` of `ram_text`), which hands answers over before it asks for more. So whenever
+//!   more was asked for, the lines so far were answered (`specs/Asking.antt`).
 //! - A call that may end the run answers `Result<_, Stopped>`: one type for all reasons, with `From` for those of the calls
 //!   below. `status_of` turns it into a status, and `finish` into a last line.
 //!

@@ -6,20 +6,20 @@ ghost use Rattle.ram_script.specs.Answered.{line_text};
 ghost use Rattle.ram_script.specs.Printed.{printed};
 
 use ram_machine::{Reply, Stopped};
-use ram_outside::{Sink, Source};
+use ram_outside::Conversation;
 use ram_report::Print;
 use ram_text::Dialogue;
 
 /// Prints what a line of this number is answered, with the data that a command gave, or the blocks that a scrub found.
-pub fn print_reply<S: Source, K: Sink>(
-    dialogue: &mut Dialogue<S, K>,
+pub fn print_reply<T: Conversation>(
+    dialogue: &mut Dialogue<T>,
     number: u64,
     reply: &Reply,
     data_in: &[u8],
     found: &[u32],
 ) -> Print
     requires { CanPrint reply.now }
-    ensures { Tells S.Source K.Sink dialogue.old dialogue.new
+    ensures { Tells T.Conversation T.Sink.Sink dialogue.old dialogue.new
         (line_text number reply.now (data_told (Ok reply.now) data_in.now found.now)) result }
 {
     match reply {

@@ -1,6 +1,7 @@
 //! The lines of a script, answered one after another.
-ghost use Rattle.std.specs.Prelude.{◌^◌, ◌<◌, ◌≡◌, is_some};
-ghost use Rattle.ram_text.specs.Dialogue.{HasSameEnds, due_in, reader_of, dialogue_room, sink_of, source_of};
+ghost use Rattle.std.specs.Prelude.{◌^◌, ◌<◌, ◌≡◌, true, is_some};
+ghost use Rattle.ram_outside.specs.Conversation.{AsksOnly};
+ghost use Rattle.ram_text.specs.Dialogue.{HasSameEnds, due_in, reader_of, dialogue_room, sink_of, talk_of};
 ghost use Rattle.ram_text.specs.DialogueRoom.{IsEmptyRoom};
 ghost use Rattle.ram_machine.specs.LineSteps.{CountsUses};
 ghost use Rattle.ram_script.specs.Counting.{AreAtMost};
@@ -9,21 +10,22 @@ ghost use Rattle.ram_script.specs.RunCounts.{StopCounts, counts_with};
 ghost use Rattle.ram_script.specs.RunState.{IsFresh, HasRoom, TallyRule};
 ghost use Rattle.ram_script.specs.Progress.{Beginning, SoFar, Between, Taken, TurnsTo, Ends, run_view};
 ghost use Rattle.ram_script.specs.Leaving.{LeavesBy};
+ghost use Rattle.ram_script.specs.Asking.{IsAnsweredBy};
 ghost use Rattle.ram_script.specs.Endings.{Begins, BeginsWhereKnown, IsOfRun, StandsWith, StatusCounts, aftermath};
 
 use crate::ending::finish;
 use crate::state::{RunState, take_line, tell};
 use ram_machine::status::Status;
 use ram_machine::{Drive, Inserted, Stopped, TargetRooms, begin};
-use ram_outside::{Image, Sink, Source};
+use ram_outside::{Conversation, Image};
 use ram_text::{Dialogue, Line};
 
 /// Answers a line, and prints the answer.
-fn answer_line<D: Drive, S: Source, K: Sink>(
+fn answer_line<D: Drive, T: Conversation>(
     inserted: &mut Inserted<D>,
     line: Line,
     state: &mut RunState,
-    dialogue: &mut Dialogue<S, K>,
+    dialogue: &mut Dialogue<T>,
 ) -> Result<(), Stopped>
     requires uses { CountsUses line }
     requires lines { state.old.tally.lines < 2 ^ 63 }
@@ -33,14 +35,15 @@ fn answer_line<D: Drive, S: Source, K: Sink>(
     ensures ends { HasSameEnds dialogue.old dialogue.new }
     ensures turn { (first : Beginning) (far : SoFar first)
         → Stands D.Caching D.lies_in D.Image.Image inserted.old far.now
-        → Taken far (run_view S.Source K.Sink dialogue.old state.old.tally) line state.old.payload.items
+        → Taken far (run_view T.Conversation T.Sink.Sink dialogue.old state.old.tally) line state.old.payload.items
         → TurnsTo first (Stands D.Caching D.lies_in D.Image.Image inserted.new)
-        (run_view S.Source K.Sink dialogue.new state.new.tally) result }
+        (run_view T.Conversation T.Sink.Sink dialogue.new state.new.tally) result }
     ensures counts { StopCounts
-        (counts_with S.Source K.Sink dialogue.old (faults_of D.Caching D.Image.Image inserted.old))
-        (counts_with S.Source K.Sink dialogue.new (faults_of D.Caching D.Image.Image inserted.new)) result }
-    ensures known { is_some (due_in S.Source K.Sink dialogue.new) ≡ is_some (due_in S.Source K.Sink dialogue.old) }
+        (counts_with T.Conversation T.Sink.Sink dialogue.old (faults_of D.Caching D.Image.Image inserted.old))
+        (counts_with T.Conversation T.Sink.Sink dialogue.new (faults_of D.Caching D.Image.Image inserted.new)) result }
+    ensures known { is_some (due_in T.Conversation T.Sink.Sink dialogue.new) ≡ is_some (due_in T.Conversation T.Sink.Sink dialogue.old) }
     ensures tally { TallyRule state.old.tally state.new.tally result }
+    ensures same_asked { T.asked (talk_of dialogue.new) ≡ T.asked (talk_of dialogue.old) }
     ensures same_reading { reader_of dialogue.new ≡ reader_of dialogue.old }
     ensures room { HasRoom state.new }
 {
@@ -53,11 +56,12 @@ fn answer_line<D: Drive, S: Source, K: Sink>(
 /// # Clauses
 ///
 /// - `ends`, `counts`: The same over what is inserted. What is due is said where the sink tells its bytes (`IsDue`).
+/// - `asks`: Where the sink tells its bytes: whenever more was asked for, all answers to the whole lines that had come were written.
 /// - `known`: A sink that tells its bytes still tells them.
-fn serve_lines<D: Drive, S: Source, K: Sink>(
+fn serve_lines<D: Drive, T: Conversation>(
     inserted: Inserted<D>,
     state: &mut RunState,
-    dialogue: &mut Dialogue<S, K>,
+    dialogue: &mut Dialogue<T>,
 ) -> (Inserted<D>, Result<(), Stopped>)
     requires fresh { IsFresh state.old }
     requires empty { IsEmptyRoom (dialogue_room dialogue.old) }
@@ -65,13 +69,18 @@ fn serve_lines<D: Drive, S: Source, K: Sink>(
     ensures same { HasSameEnds dialogue.old dialogue.new }
     ensures ends { (first : Beginning)
         → Between first (Stands D.Caching D.lies_in D.Image.Image inserted)
-        (run_view S.Source K.Sink dialogue.old state.old.tally)
+        (run_view T.Conversation T.Sink.Sink dialogue.old state.old.tally)
         → Ends first (Stands D.Caching D.lies_in D.Image.Image result.0)
-        (run_view S.Source K.Sink dialogue.new state.new.tally) result.1 }
+        (run_view T.Conversation T.Sink.Sink dialogue.new state.new.tally) result.1 }
     ensures counts { StopCounts
-        (counts_with S.Source K.Sink dialogue.old (faults_of D.Caching D.Image.Image inserted))
-        (counts_with S.Source K.Sink dialogue.new (faults_of D.Caching D.Image.Image result.0)) result.1 }
-    ensures known { is_some (due_in S.Source K.Sink dialogue.new) ≡ is_some (due_in S.Source K.Sink dialogue.old) }
+        (counts_with T.Conversation T.Sink.Sink dialogue.old (faults_of D.Caching D.Image.Image inserted))
+        (counts_with T.Conversation T.Sink.Sink dialogue.new (faults_of D.Caching D.Image.Image result.0)) result.1 }
+    ensures asks { (first : Beginning)
+        → Between first (Stands D.Caching D.lies_in D.Image.Image inserted)
+        (run_view T.Conversation T.Sink.Sink dialogue.old state.old.tally)
+        → is_some (due_in T.Conversation T.Sink.Sink dialogue.old) ≡ true
+        → AsksOnly (IsAnsweredBy first) (T.asked (talk_of dialogue.old)) (T.asked (talk_of dialogue.new)) }
+    ensures known { is_some (due_in T.Conversation T.Sink.Sink dialogue.new) ≡ is_some (due_in T.Conversation T.Sink.Sink dialogue.old) }
     ensures few { state.new.tally.lines < 2 ^ 63 }
 {
     let mut inserted = inserted;
@@ -100,22 +109,22 @@ fn serve_lines<D: Drive, S: Source, K: Sink>(
 /// - `Ok`: the script was answered to its end. (`LeavesBy`)
 /// - `Err`, `NotInLanguage`, `LineTooLong`, `ScriptTooLong`, `NotADisc`, `SourceFault`, `SinkFault`, `ImageFault`: why the lines
 ///   end there, with the image as they leave it. (`LeavesBy`)
-pub fn answer_lines<D: Drive, S: Source, K: Sink>(
+pub fn answer_lines<D: Drive, T: Conversation>(
     rooms: TargetRooms,
     image: D::Image,
     state: &mut RunState,
-    dialogue: &mut Dialogue<S, K>,
+    dialogue: &mut Dialogue<T>,
 ) -> (D::Image, Result<(), Stopped>)
     requires fresh { IsFresh state.old }
     requires empty { IsEmptyRoom (dialogue_room dialogue.old) }
     requires room { HasRoom state.old }
     ensures same { HasSameEnds dialogue.old dialogue.new }
     ensures leaves { (first : Beginning) → first.kind ≡ rooms.drive.kind
-        → BeginsWhereKnown first (S.left (source_of dialogue.old)) (K.written (sink_of dialogue.old))
+        → BeginsWhereKnown first (T.left (talk_of dialogue.old)) (T.Sink.written (sink_of T.Conversation dialogue.old))
         (D.Image.bytes image)
         → LeavesBy first state.new.tally (D.Image.bytes result.0) result.1 }
-    ensures counts { StopCounts (counts_with S.Source K.Sink dialogue.old (D.Image.faults image))
-        (counts_with S.Source K.Sink dialogue.new (D.Image.faults result.0)) result.1 }
+    ensures counts { StopCounts (counts_with T.Conversation T.Sink.Sink dialogue.old (D.Image.faults image))
+        (counts_with T.Conversation T.Sink.Sink dialogue.new (D.Image.faults result.0)) result.1 }
 {
     let inserted = match begin::<D>(rooms, image) {
         Ok(inserted) => inserted,
@@ -132,16 +141,17 @@ pub fn answer_lines<D: Drive, S: Source, K: Sink>(
 /// # Clauses
 ///
 /// - `leaves`, `counts`: The table above; and by the status which count rose (`StatusCounts`).
+/// - `asks`: Whenever more was asked for, all answers to the whole lines that had come were written (`IsAnsweredBy`).
 ///
 /// # Answers
 ///
 /// - `Done`, `Differs`, `Usage`, `Script`, `ImageFault`, `SourceFault`, `SinkFault`, `NoMemory`, `NotADisc`: as for `run` of
 ///   ram_run; never `Differs`, `Usage` or `NoMemory`. (`StandsWith`, `StatusCounts`)
-pub fn serve<D: Drive, S: Source, K: Sink>(
+pub fn serve<D: Drive, T: Conversation>(
     rooms: TargetRooms,
     image: D::Image,
     state: &mut RunState,
-    dialogue: &mut Dialogue<S, K>,
+    dialogue: &mut Dialogue<T>,
 ) -> (D::Image, Status)
     requires fresh { IsFresh state.old }
     requires empty { IsEmptyRoom (dialogue_room dialogue.old) }
@@ -149,13 +159,16 @@ pub fn serve<D: Drive, S: Source, K: Sink>(
     ensures other { IsOfRun result.1 }
     ensures same { HasSameEnds dialogue.old dialogue.new }
     ensures leaves { (first : Beginning) → first.kind ≡ rooms.drive.kind
-        → Begins first (S.left (source_of dialogue.old)) (K.written (sink_of dialogue.old)) (D.Image.bytes image)
+        → Begins first (T.left (talk_of dialogue.old)) (T.Sink.written (sink_of T.Conversation dialogue.old)) (D.Image.bytes image)
         → StandsWith first
-        (aftermath (S.left (source_of dialogue.new)) (K.written (sink_of dialogue.new)) (D.Image.bytes result.0))
-        (counts_with S.Source K.Sink dialogue.old (D.Image.faults image))
-        (counts_with S.Source K.Sink dialogue.new (D.Image.faults result.0)) result.1 }
-    ensures counts { StatusCounts (counts_with S.Source K.Sink dialogue.old (D.Image.faults image))
-        (counts_with S.Source K.Sink dialogue.new (D.Image.faults result.0)) result.1 }
+        (aftermath (T.left (talk_of dialogue.new)) (T.Sink.written (sink_of T.Conversation dialogue.new)) (D.Image.bytes result.0))
+        (counts_with T.Conversation T.Sink.Sink dialogue.old (D.Image.faults image))
+        (counts_with T.Conversation T.Sink.Sink dialogue.new (D.Image.faults result.0)) result.1 }
+    ensures asks { (first : Beginning) → first.kind ≡ rooms.drive.kind
+        → Begins first (T.left (talk_of dialogue.old)) (T.Sink.written (sink_of T.Conversation dialogue.old)) (D.Image.bytes image)
+        → AsksOnly (IsAnsweredBy first) (T.asked (talk_of dialogue.old)) (T.asked (talk_of dialogue.new)) }
+    ensures counts { StatusCounts (counts_with T.Conversation T.Sink.Sink dialogue.old (D.Image.faults image))
+        (counts_with T.Conversation T.Sink.Sink dialogue.new (D.Image.faults result.0)) result.1 }
 {
     let inserted = match begin::<D>(rooms, image) {
         Ok(inserted) => inserted,

@@ -2,7 +2,7 @@
 //! command both ways, and how many lines came.
 ghost use Rattle.std.specs.Prelude.{◌≡◌, ◌^◌, ◌<◌, ◌≤◌, ◌+◌, ℕ, IfOk, is_some};
 ghost use Rattle.ram_script.specs.declared.state.TheConstants.{STATE_MEMORY};
-ghost use Rattle.ram_text.specs.Dialogue.{HasSameEnds, AsksNothing, due_in, reader_of, sink_of};
+ghost use Rattle.ram_text.specs.Dialogue.{HasSameEnds, AsksNothing, AsksShown, due_in, reader_of, sink_of};
 ghost use Rattle.ram_script.specs.Counting.{AreAtMost};
 ghost use Rattle.ram_machine.specs.Replies.{PrintsWhere, data_told};
 ghost use Rattle.ram_script.specs.RunCounts.{StopCounts, TellCount, counts_with};
@@ -13,7 +13,7 @@ use crate::counts::AnswerCounts;
 use crate::printing::{print_reply, printed};
 use ram_bytes::{Budget, MemoryRefused};
 use ram_machine::{Reply, Stopped};
-use ram_outside::{Sink, Source};
+use ram_outside::Conversation;
 use ram_report::SinkFailed;
 use ram_text::{Dialogue, Line, NextLine, PAYLOAD_ROOM, parse_line};
 
@@ -96,20 +96,22 @@ impl Tally {
 /// # Clauses
 ///
 /// - `next`, `counts`: The next line of the script, or why there is none.
-pub fn take_line<S: Source, K: Sink>(
+/// - `asks`: Whenever more was asked for, all that is due was written, and no whole line had come.
+pub fn take_line<T: Conversation>(
     state: &mut RunState,
-    dialogue: &mut Dialogue<S, K>,
+    dialogue: &mut Dialogue<T>,
 ) -> Result<Option<Line>, Stopped>
     requires room { HasRoom state.old }
     ensures ends { HasSameEnds dialogue.old dialogue.new }
     ensures next { (first : Beginning) (far : SoFar first)
-        → IsAt far (run_view S.Source K.Sink dialogue.old state.old.tally)
-        → NextRule far (run_view S.Source K.Sink dialogue.new state.new.tally) state.new.payload.items result }
-    ensures counts { (image : ℕ) → StopCounts (counts_with S.Source K.Sink dialogue.old image)
-        (counts_with S.Source K.Sink dialogue.new image) result }
+        → IsAt far (run_view T.Conversation T.Sink.Sink dialogue.old state.old.tally)
+        → NextRule far (run_view T.Conversation T.Sink.Sink dialogue.new state.new.tally) state.new.payload.items result }
+    ensures counts { (image : ℕ) → StopCounts (counts_with T.Conversation T.Sink.Sink dialogue.old image)
+        (counts_with T.Conversation T.Sink.Sink dialogue.new image) result }
+    ensures asks { AsksShown T.Conversation T.Sink.Sink dialogue.old dialogue.new }
     ensures takes { TakesBytes (reader_of dialogue.old).taken (reader_of dialogue.new).taken result }
     ensures uses { FoundCountsUses result }
-    ensures same_due { due_in S.Source K.Sink dialogue.new ≡ due_in S.Source K.Sink dialogue.old }
+    ensures same_due { due_in T.Conversation T.Sink.Sink dialogue.new ≡ due_in T.Conversation T.Sink.Sink dialogue.old }
     ensures same_tally { state.new.tally ≡ state.old.tally }
     ensures room { HasRoom state.new }
 {
@@ -134,9 +136,9 @@ pub fn take_line<S: Source, K: Sink>(
 ///
 /// - `tells`, `count`, `tally`: The reply is printed with its number and the line counts; an outcome that ends the run is told as
 ///   it is.
-pub fn tell<S: Source, K: Sink>(
+pub fn tell<T: Conversation>(
     state: &mut RunState,
-    dialogue: &mut Dialogue<S, K>,
+    dialogue: &mut Dialogue<T>,
     outcome: Result<Reply, Stopped>,
     found: &[u32],
 ) -> Result<(), Stopped>
@@ -145,12 +147,12 @@ pub fn tell<S: Source, K: Sink>(
     requires answered { state.old.tally.answered < 2 ^ 63 }
     requires counts { AreAtMost state.old.tally.counts state.old.tally.lines }
     ensures ends { HasSameEnds dialogue.old dialogue.new }
-    ensures nothing { AsksNothing dialogue.old dialogue.new }
-    ensures tells { TellRule (run_view S.Source K.Sink dialogue.old state.old.tally)
-        (run_view S.Source K.Sink dialogue.new state.new.tally)
+    ensures nothing { AsksNothing T.Conversation dialogue.old dialogue.new }
+    ensures tells { TellRule (run_view T.Conversation T.Sink.Sink dialogue.old state.old.tally)
+        (run_view T.Conversation T.Sink.Sink dialogue.new state.new.tally)
         (data_told outcome state.old.data_in.items found.now) outcome result }
-    ensures known { is_some (due_in S.Source K.Sink dialogue.new) ≡ is_some (due_in S.Source K.Sink dialogue.old) }
-    ensures count { TellCount (K.faults (sink_of dialogue.old)) (K.faults (sink_of dialogue.new)) outcome result }
+    ensures known { is_some (due_in T.Conversation T.Sink.Sink dialogue.new) ≡ is_some (due_in T.Conversation T.Sink.Sink dialogue.old) }
+    ensures count { TellCount (T.Sink.faults (sink_of T.Conversation dialogue.old)) (T.Sink.faults (sink_of T.Conversation dialogue.new)) outcome result }
     ensures tally { TallyRule state.old.tally state.new.tally result }
     ensures room { HasRoom state.old → HasRoom state.new }
 {

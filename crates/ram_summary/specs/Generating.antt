@@ -4,6 +4,7 @@ use Rattle.std.specs.Io.KnownBytes.{append_known}
 use Rattle.model_counts.specs.Counts.{Rose}
 use Rattle.model_geometry.specs.declared.kinds.LayoutKind.TheVariants.{OneGroup}
 use Rattle.ram_generate.specs.Script.{script_from}
+use Rattle.ram_outside.specs.Conversation.{Asked}
 use Rattle.ram_outside.specs.Opener.{opener_view}
 use Rattle.ram_outside.specs.declared.opener.Access.{Access}
 use Rattle.ram_outside.specs.declared.opener.Opener.{Ghosts as Openers}
@@ -71,18 +72,26 @@ Generates bytes_of seed first old new status =
     GeneratedWith seed first old.written new.written (bytes_returned bytes_of new.opener.returned) status
     ⊎ (IsUnopened status × IsNotOpened old new)
 
--- the opener was asked for this name, once, for this; the source of the program's script was not touched
+-- the opener was asked for this name, once, for this; nothing was asked of the program's script
 pub record AsksUnread {I : Type 0} (old new : Surroundings I) (access : Access) (name : List ℕ) (status : Status) : Type 0 where
   pub asks : AsksOnce old new access name status
   pub left : new.left ≡ old.left
+  pub asked : new.asked ≡ old.asked
   pub count : new.counts.source ≡ old.counts.source
 
-module _ {K O I : Type 0} (left : Option (List ℕ)) (source : ℕ) (sinks : Sinks K) (openers : Openers O I) where
-  -- the surroundings of sink and opener, beside a source that has this left and has failed so often
+-- What is known of what comes, for a call that asks for nothing: what is left, when more was asked for, and how often it failed.
+pub record Heard : Type 0 where
+  pub left : Option (List ℕ)
+  pub asked : Option (List Asked)
+  pub faults : ℕ
+
+module _ {K O I : Type 0} (heard : Heard) (sinks : Sinks K) (openers : Openers O I) where
+  -- the surroundings of sink and opener, beside what comes
   abbrev pub beside : K → O → Surroundings I
   beside report opener = record {
-    left = left;
+    left = heard.left;
     written = sinks.written report;
+    asked = heard.asked;
     opener = opener_view (openers.next opener) (openers.returned opener) (openers.asked opener) (openers.faults opener);
-    counts = counts_of source (sinks.faults report) (openers.faults opener);
+    counts = counts_of heard.faults (sinks.faults report) (openers.faults opener);
   }

@@ -5,7 +5,7 @@ ghost use Rattle.ram_outside.specs.Sink.{PutRule};
 use ram_outside::{Put, Sink};
 
 /// A sink that takes all that it is given, and keeps nothing.
-#[derive(Clone, Copy, Debug, PartialEq, Eq)]
+#[derive(Debug, PartialEq, Eq, Drop)]
 pub struct DroppedReport;
 
 impl Sink for DroppedReport {

@@ -10,7 +10,7 @@ ghost use Rattle.ram_script.specs.Around.{AsksOnce, TextCount, WritesText};
 ghost use Rattle.ram_script.specs.Endings.{IsOfRun, StatusCounts};
 ghost use Rattle.ram_summary.specs.Summary.{tally_text};
 ghost use Rattle.ram_script.specs.Leaving.{LeavesBy};
-ghost use Rattle.ram_summary.specs.Generating.{BeginsFrom, EndCount, Generates, beside};
+ghost use Rattle.ram_summary.specs.Generating.{BeginsFrom, EndCount, Generates, Heard, beside};
 
 use crate::dropped::DroppedReport;
 use crate::kept::KeptScript;
@@ -21,7 +21,7 @@ use ram_generate::draw_script;
 use ram_image::ImageMedium;
 use ram_machine::Stopped;
 use ram_machine::status::Status;
-use ram_outside::{Image, Opened, Opener, Sink};
+use ram_outside::{BothEnds, Image, Opened, Opener, Sink};
 use ram_script::serve::answer_lines;
 use ram_script::{ScriptRooms, Tally, status_of, write_text};
 use ram_text::Dialogue;
@@ -46,18 +46,18 @@ pub fn generate_image<K: Sink, O: Opener>(
 ) -> Status
     requires ready { AreReadyFor rooms }
     ensures other { IsOfRun result }
-    ensures causes { (left : Option (List ℕ)) (source : ℕ) → StatusCounts
-        (beside left source K.Sink O.Opener report.old opener.old).counts
-        (beside left source K.Sink O.Opener report.new opener.new).counts result }
-    ensures asks { (left : Option (List ℕ)) (source : ℕ) → AsksOnce
-        (beside left source K.Sink O.Opener report.old opener.old)
-        (beside left source K.Sink O.Opener report.new opener.new) ReadWrite name.now result }
-    ensures generate { (left : Option (List ℕ)) (source : ℕ) (first : Beginning)
+    ensures causes { (heard : Heard) → StatusCounts
+        (beside heard K.Sink O.Opener report.old opener.old).counts
+        (beside heard K.Sink O.Opener report.new opener.new).counts result }
+    ensures asks { (heard : Heard) → AsksOnce
+        (beside heard K.Sink O.Opener report.old opener.old)
+        (beside heard K.Sink O.Opener report.new opener.new) ReadWrite name.now result }
+    ensures generate { (heard : Heard) (first : Beginning)
         → BeginsFrom O.Image.bytes seed first
-        (beside left source K.Sink O.Opener report.old opener.old) O.returned_known
+        (beside heard K.Sink O.Opener report.old opener.old) O.returned_known
         → Generates O.Image.bytes seed first
-        (beside left source K.Sink O.Opener report.old opener.old)
-        (beside left source K.Sink O.Opener report.new opener.new) result }
+        (beside heard K.Sink O.Opener report.old opener.old)
+        (beside heard K.Sink O.Opener report.new opener.new) result }
 {
     let GenerateRooms {
         lines,
@@ -96,15 +96,12 @@ fn answer_script<I: Image>(
         dialogue: mut room,
         target,
     } = rooms;
-    let mut script = KeptScript::new(script);
-    let mut report = DroppedReport;
-    let mut dialogue = Dialogue::new(&mut script, &mut report, &mut room);
-    let (image, ending) = answer_lines::<Cached<Volume<ImageMedium<I>>>, KeptScript, DroppedReport>(
-        target,
-        image,
-        &mut state,
-        &mut dialogue,
-    );
+    let mut talk = BothEnds::new(KeptScript::new(script), DroppedReport);
+    let mut dialogue = Dialogue::new(&mut talk, &mut room);
+    let (image, ending) = answer_lines::<
+        Cached<Volume<ImageMedium<I>>>,
+        BothEnds<KeptScript, DroppedReport>,
+    >(target, image, &mut state, &mut dialogue);
     (image, state.tally, ending)
 }
 

@@ -4,7 +4,7 @@ use Rattle.std.proofs.lemmas.List.{take-append-le}
 use Rattle.std.specs.Io.KnownBytes.{prepend_known, Consumes}
 use Rattle.ram_text.specs.declared.lines.NextLine.{NextLine}
 use Rattle.ram_text.specs.declared.lines.NextLine.TheVariants.{Line, End, LineTooLong, ScriptTooLong, Failed}
-use Rattle.ram_outside.specs.declared.source.Source.{Ghosts as Sources}
+use Rattle.ram_outside.specs.declared.conversation.Conversation.{Ghosts as Conversations}
 use Rattle.ram_text.specs.Lines.{Reading, HasNoFeed, GivesLine, NothingWent, LineIsTooLong, ScriptIsTooLong, left_of, NextLineRule}
 use Rattle.ram_text.specs.Steps.{CutRule}
 
@@ -70,9 +70,9 @@ answered_at_first held taken before after left rest first faults same stood coun
     (subst (λ (t : ℕ). Answered (prepend_known before.buffered rest) (prepend_known after.buffered rest) t after.taken after.line first faults answer) stood (answered before after rest first faults count answer cut))
 
 -- it is what the rule says of it
-pub rule_of : {S : Type 0} (sources : Sources S) (r r' : Reading) (s s' : S) (answer : NextLine) → Answered (left_of sources r s) (left_of sources r' s') r.taken r'.taken r'.line (sources.faults s) (sources.faults s') answer → NextLineRule sources r r' s s' answer
-rule_of sources r r' s s' Line says = says
-rule_of sources r r' s s' LineTooLong says = says
-rule_of sources r r' s s' ScriptTooLong says = says
-rule_of sources r r' s s' End says = elim says [ ]
-rule_of sources r r' s s' Failed says = elim says [ ]
+pub rule_of : {T K : Type 0} (talks : Conversations T K) (r r' : Reading) (s s' : T) (answer : NextLine) → Answered (left_of talks r s) (left_of talks r' s') r.taken r'.taken r'.line (talks.faults s) (talks.faults s') answer → NextLineRule talks r r' s s' answer
+rule_of talks r r' s s' Line says = says
+rule_of talks r r' s s' LineTooLong says = says
+rule_of talks r r' s s' ScriptTooLong says = says
+rule_of talks r r' s s' End says = elim says [ ]
+rule_of talks r r' s s' Failed says = elim says [ ]

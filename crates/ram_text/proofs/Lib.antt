@@ -8,3 +8,4 @@ pub mod HexSteps
 pub mod ScriptReadings
 pub mod Forms
 pub mod Limits
+pub mod AsksOpen

@@ -10,12 +10,9 @@ pub record IsEmptyRoom (room : DialogueRoom) : Type 0 where
   pub taken : room.reader.taken ≡ 0
   pub gathered : room.writer.gathered ≡ []
 
--- the dialogue is between these ends
-pub record IsBetween {S K : Type 0} (script : MutBor S) (report : MutBor K) (room : MutBor DialogueRoom)
-    (dialogue : Dialogue S K) : Type 0 where
-  pub same_script : dialogue.script.ghost_name ≡ script.ghost_name
-  pub same_report : dialogue.report.ghost_name ≡ report.ghost_name
+-- the dialogue is this conversation, in this room
+pub record IsBetween {T K : Type 0} (talk : MutBor T) (room : MutBor DialogueRoom) (dialogue : Dialogue T K) : Type 0 where
+  pub same_talk : dialogue.talk.ghost_name ≡ talk.ghost_name
   pub same_room : dialogue.room.ghost_name ≡ room.ghost_name
-  pub script_is : dialogue.script.now ≡ script.now
-  pub report_is : dialogue.report.now ≡ report.now
+  pub talk_is : dialogue.talk.now ≡ talk.now
   pub room_is : dialogue.room.now ≡ room.now

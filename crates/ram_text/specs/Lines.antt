@@ -2,7 +2,8 @@
 use Rattle.std.specs.Prelude.{◌≡◌, ◌≢◌, ℕ, ◌+◌, ◌-◌, ◌<◌, ◌≤◌, ◌⊎◌, Option, None, Some, is_some, IfSome, List, [], ◌∷◌, ◌++◌, length, take, slice_index, All}
 use Rattle.std.specs.Io.KnownBytes.{Consumes, IsAtEnd, prepend_known}
 use Rattle.model_counts.specs.Counts.{Rose}
-use Rattle.ram_outside.specs.declared.source.Source.{Ghosts as Sources}
+use Rattle.ram_outside.specs.Conversation.{Asked}
+use Rattle.ram_outside.specs.declared.conversation.Conversation.{Ghosts as Conversations}
 use Rattle.ram_text.specs.declared.lines.TheConstants.{LINE_LIMIT, SCRIPT_LIMIT}
 use Rattle.ram_text.specs.declared.lines.NextLine.{NextLine}
 use Rattle.ram_text.specs.declared.lines.NextLine.TheVariants.{Line, End, LineTooLong, ScriptTooLong, Failed}
@@ -87,24 +88,32 @@ pub record LineFails (left left' : Option (List ℕ)) (taken taken' : ℕ) (line
   pub clear : HasNoFeed buffered'
   pub count : Rose faults faults'
 
-module _ {S : Type 0} (sources : Sources S) where
-  -- what is left of the script: what is buffered, and then what the source has left (this project's own)
-  abbrev pub left_of : Reading → S → Option (List ℕ)
-  left_of reading source = prepend_known reading.buffered (sources.left source)
+-- More was asked for while this was written, of a script of which this was left, what had come and was not taken before the rest of it: and
+-- what had come has no line feed, so it is no whole line. (This project's own.)
+pub record IsOpenAsk (left written : Option (List ℕ)) (ask : Asked) : Type 0 where
+  pub written_is : ask.written ≡ written
+  pub came : List ℕ
+  pub clear : HasNoFeed came
+  pub rest_is : prepend_known came ask.left ≡ left
 
-  -- What the search for the next line may do, by its answer: the reader and the source before and after. (This
+module _ {T K : Type 0} (talks : Conversations T K) where
+  -- what is left of the script: what is buffered, and then what is left to come (this project's own)
+  abbrev pub left_of : Reading → T → Option (List ℕ)
+  left_of reading talk = prepend_known reading.buffered (talks.left talk)
+
+  -- What the search for the next line may do, by its answer: the reader and the conversation before and after. (This
   -- project's own.)
-  abbrev pub NextLineRule : Reading → Reading → S → S → NextLine → Type 0
+  abbrev pub NextLineRule : Reading → Reading → T → T → NextLine → Type 0
   NextLineRule r r' s s' Line =
-      GivesLine (left_of r s) (left_of r' s') r.taken r'.taken r'.line (sources.faults s) (sources.faults s')
+      GivesLine (left_of r s) (left_of r' s') r.taken r'.taken r'.line (talks.faults s) (talks.faults s')
   NextLineRule r r' s s' End =
       NothingWent (left_of r s) (left_of r' s') r.taken r'.taken r'.line × IsAtEnd (left_of r s)
-      × (sources.faults s' ≡ sources.faults s)
+      × (talks.faults s' ≡ talks.faults s)
   NextLineRule r r' s s' LineTooLong =
       NothingWent (left_of r s) (left_of r' s') r.taken r'.taken r'.line × LineIsTooLong (left_of r s) r.taken
-      × (sources.faults s' ≡ sources.faults s)
+      × (talks.faults s' ≡ talks.faults s)
   NextLineRule r r' s s' ScriptTooLong =
       NothingWent (left_of r s) (left_of r' s') r.taken r'.taken r'.line × ScriptIsTooLong (left_of r s) r.taken
-      × (sources.faults s' ≡ sources.faults s)
+      × (talks.faults s' ≡ talks.faults s)
   NextLineRule r r' s s' Failed =
-      LineFails (left_of r s) (left_of r' s') r.taken r'.taken r'.line r'.buffered (sources.faults s) (sources.faults s')
+      LineFails (left_of r s) (left_of r' s') r.taken r'.taken r'.line r'.buffered (talks.faults s) (talks.faults s')

@@ -1,12 +1,12 @@
-//! Both ends of a run: the script that comes, line by line, and the report that goes. The source and the sink are reached
-//! through it alone, and nothing is asked of the source while text is gathered for the sink.
+//! A conversation line by line: the script that comes, and the report that goes. The conversation is reached through it alone, and
+//! nothing is asked for while text is gathered for the sink.
 ghost use Rattle.std.specs.Prelude.{◌≡◌, ◌+◌, ◌≤◌, IfOk};
 ghost use Rattle.ram_report.specs.ReportLines.{event_text, answer_text, last_text, IsPrinted, IsAddressed};
 ghost use Rattle.ram_text.specs.declared.dialogue.TheConstants.{DIALOGUE_MEMORY};
 
 use crate::lines::{LineReader, NextLine, ROOM};
 use ram_bytes::{Budget, Cdb, MemoryRefused};
-use ram_outside::{Sink, Source};
+use ram_outside::Conversation;
 use ram_report::{
     Event, LastLine, Print, ReportWriter, SinkFailed, WRITER_MEMORY, print_answer, print_event,
     print_last,
@@ -49,31 +49,22 @@ impl DialogueRoom {
     }
 }
 
-/// Both ends of a run.
+/// A conversation line by line.
 #[derive(Drop)]
-pub struct Dialogue<'a, S: Source, K: Sink> {
-    script: &'a mut S,
-    report: &'a mut K,
+pub struct Dialogue<'a, T: Conversation> {
+    talk: &'a mut T,
     room: &'a mut DialogueRoom,
 }
 
-impl<'a, S: Source, K: Sink> Dialogue<'a, S, K> {
-    ghost use Rattle.ram_text.specs.Dialogue.{HasSameEnds, SearchRule, Tells, HandsOverAll, reader_of};
+impl<'a, T: Conversation> Dialogue<'a, T> {
+    ghost use Rattle.ram_text.specs.Dialogue.{HasSameEnds, AsksNothing, AsksShown, ShowRule, SearchRule, Tells, HandsOverAll, reader_of};
     ghost use Rattle.ram_text.specs.DialogueRoom.{IsBetween};
 
-    /// A dialogue between this source and this sink.
-    pub fn new(
-        script: &'a mut S,
-        report: &'a mut K,
-        room: &'a mut DialogueRoom,
-    ) -> Dialogue<'a, S, K>
-        ensures { IsBetween script.entry report.entry room.entry result }
+    /// This conversation, line by line.
+    pub fn new(talk: &'a mut T, room: &'a mut DialogueRoom) -> Dialogue<'a, T>
+        ensures { IsBetween talk.entry room.entry result }
     {
-        Dialogue {
-            script,
-            report,
-            room,
-        }
+        Dialogue { talk, room }
     }
 
     /// Looks for the next line. Where it may have to be waited for, all of the report is handed over first; where the
@@ -81,34 +72,44 @@ impl<'a, S: Source, K: Sink> Dialogue<'a, S, K> {
     ///
     /// # Clauses
     ///
-    /// - `LooksOn`: The next line as by `LineReader::next_line`. Nothing is due then but what is written, unless a whole line was
-    ///   buffered; what is due stays, and the sink counted nothing.
-    /// - `StopsAsking`: The sink's count rose before more was asked for. The source was not called, and what is due stays.
+    /// - `AsksShown`: Whenever more was asked for, all that is due was written, and no whole line had come.
+    /// - `LooksOn`: The next line as by `LineReader::next_line`. What is due stays, and the sink counted nothing.
+    /// - `StopsAsking`: The sink's count rose before more was asked for. Nothing was asked for, and what is due stays.
     ///
     /// # Answers
     ///
     /// Unless a whole line is held, the report is handed over first.
     ///
-    /// - `Ok`: nothing is due but what is written, or a whole line was held. Then: the next line was looked for, as follows.
+    /// - `Ok`: a whole line was held, or all that is due was written. Then: the next line was looked for, as follows.
     ///   (`LooksOn`)
     /// - `Line`: as of `LineReader::next_line`. Then: as of it. (`LooksOn`)
     /// - `End`: as of `LineReader::next_line`. Then: as of it. (`LooksOn`)
     /// - `LineTooLong`: as of `LineReader::next_line`. Then: as of it. (`LooksOn`)
     /// - `ScriptTooLong`: as of `LineReader::next_line`. Then: as of it. (`LooksOn`)
     /// - `Failed`: as of `LineReader::next_line`. Then: as of it. (`LooksOn`)
-    /// - `Err`: the sink counted a failure. Then: the source was not asked; what is due is as before. (`StopsAsking`)
+    /// - `Err`: the sink counted a failure. Then: nothing was asked for; what is due is as before. (`StopsAsking`)
     pub fn next_line(&mut self) -> Result<NextLine, SinkFailed>
         ensures ends { HasSameEnds self.old self.new }
-        ensures rule { SearchRule S.Source K.Sink self.old self.new result }
+        ensures asks { AsksShown T.Conversation T.Sink.Sink self.old self.new }
+        ensures rule { SearchRule T.Conversation T.Sink.Sink self.old self.new result }
     {
-        let room = &mut *self.room;
-        if !room.reader.has_line() {
-            match room.writer.flush(&mut *self.report) {
-                Print::Done => {}
-                Print::Failed => return Err(SinkFailed),
-            }
+        self.show()?;
+        Ok(self.room.reader.next_line(&mut *self.talk))
+    }
+
+    // Hands over all that is due, unless a whole line is held, so that more may be asked for.
+    fn show(&mut self) -> Result<(), SinkFailed>
+        ensures ends { HasSameEnds self.old self.new }
+        ensures nothing { AsksNothing T.Conversation self.old self.new }
+        ensures rule { ShowRule T.Conversation T.Sink.Sink self.old self.new result }
+    {
+        if self.room.reader.has_line() {
+            return Ok(());
         }
-        Ok(room.reader.next_line(&mut *self.script, &room.writer))
+        match self.room.writer.flush(self.talk.report_mut()) {
+            Print::Done => Ok(()),
+            Print::Failed => Err(SinkFailed),
+        }
     }
 
     /// The line found last, without its line feed; empty where the last answer was no line.
@@ -123,17 +124,17 @@ impl<'a, S: Source, K: Sink> Dialogue<'a, S, K> {
     ///
     /// # Clauses
     ///
-    /// - `Tells`: As the calls of these names. The source was not called.
+    /// - `Tells`: As the calls of these names. Nothing was asked for.
     ///
     /// # Answers
     ///
     /// As for `Dialogue::print_answer`.
     pub fn print_event(&mut self, number: u64, event: &Event, found: &[u32]) -> Print
-        ensures { Tells S.Source K.Sink self.old self.new (event_text number event.now found.now) result }
+        ensures { Tells T.Conversation T.Sink.Sink self.old self.new (event_text number event.now found.now) result }
     {
         print_event(
             &mut self.room.writer,
-            &mut *self.report,
+            self.talk.report_mut(),
             number,
             event,
             found,
@@ -144,23 +145,23 @@ impl<'a, S: Source, K: Sink> Dialogue<'a, S, K> {
     ///
     /// # Clauses
     ///
-    /// - `Tells`: As the calls of these names. The source was not called.
+    /// - `Tells`: As the calls of these names. Nothing was asked for.
     ///
     /// # Answers
     ///
-    /// The source is not asked.
+    /// Nothing is asked for.
     ///
     /// - `Done`: the whole text is due. Then: it stands behind what was due. (`Tells`)
     /// - `Failed`: the sink counted a failure. Then: a prefix of the text stands behind what was due. (`Tells`)
     pub fn print_answer(&mut self, number: u64, answer: &Answer, cdb: &Cdb, reply: &[u8]) -> Print
         requires printed { IsPrinted answer.now }
         requires addressed { IsAddressed answer.now cdb.now }
-        ensures { Tells S.Source K.Sink self.old self.new
+        ensures { Tells T.Conversation T.Sink.Sink self.old self.new
             (answer_text number answer.now cdb.now reply.now) result }
     {
         print_answer(
             &mut self.room.writer,
-            &mut *self.report,
+            self.talk.report_mut(),
             number,
             answer,
             cdb,
@@ -172,32 +173,32 @@ impl<'a, S: Source, K: Sink> Dialogue<'a, S, K> {
     ///
     /// # Clauses
     ///
-    /// - `Tells`: As the calls of these names. The source was not called.
+    /// - `Tells`: As the calls of these names. Nothing was asked for.
     ///
     /// # Answers
     ///
     /// As for `Dialogue::print_answer`.
     pub fn print_last(&mut self, last: &LastLine) -> Print
-        ensures { Tells S.Source K.Sink self.old self.new (last_text last.now) result }
+        ensures { Tells T.Conversation T.Sink.Sink self.old self.new (last_text last.now) result }
     {
-        print_last(&mut self.room.writer, &mut *self.report, last)
+        print_last(&mut self.room.writer, self.talk.report_mut(), last)
     }
 
     /// Hands over what is gathered.
     ///
     /// # Clauses
     ///
-    /// - `HandsOverAll`: As `ReportWriter::flush`. The source was not called.
+    /// - `HandsOverAll`: As `ReportWriter::flush`. Nothing was asked for.
     ///
     /// # Answers
     ///
-    /// The source is not asked.
+    /// Nothing is asked for.
     ///
     /// - `Done`: all was handed over. Then: what is due is as before; nothing is gathered. (`HandsOverAll`)
     /// - `Failed`: the sink counted a failure. Then: what is due is as before. (`HandsOverAll`)
     pub fn flush(&mut self) -> Print
-        ensures { HandsOverAll S.Source K.Sink self.old self.new result }
+        ensures { HandsOverAll T.Conversation T.Sink.Sink self.old self.new result }
     {
-        self.room.writer.flush(&mut *self.report)
+        self.room.writer.flush(self.talk.report_mut())
     }
 }

@@ -1,14 +1,15 @@
-//! The lines of a script, read from any source, and the dialogue between a script and its report.
+//! The lines of a script, and a conversation line by line: the script and its report.
 //!
 //! The pages of definitions that matter: `specs/Lines.antt` (what the next line is), `specs/Script.antt` (what a line reads as),
-//! `specs/Dialogue.antt` (how lines and answers go between a source and a sink).
+//! `specs/Dialogue.antt` (how lines and answers come and go).
 //!
 //! # What is proved
 //!
-//! - `Dialogue`: Both ends of a run: a source with its reader, and a sink with its writer. Its fields are private, so who has the
+//! - `Dialogue`: A conversation with a reader of its lines and a writer of its report. Its fields are private, so who has the
 //!   dialogue alone can neither read nor write past it: text that is gathered elsewhere cannot reach the sink.
-//! - every call of `Dialogue` that may change it, `HasSameEnds`: Its ends are where they were, so what happens to the dialogue
-//!   happens to the source and the sink that it was made of.
+//! - every call of `Dialogue` that may change it, `HasSameEnds`: Its conversation is where it was, so what happens to the dialogue
+//!   happens to the conversation that it was made of.
+//! - `Dialogue::next_line`, `AsksShown`: Whenever more was asked for, all that is due was written, and no whole line had come.
 //!
 //! # What is neither
 //!

@@ -1,16 +1,15 @@
-//! The lines of a script, one after another, from any source. It touches its own bytes, and the source by `take`
+//! The lines of a script, one after another, from any conversation. It touches its own bytes, and the conversation by `take`
 //! alone.
-ghost use Rattle.std.specs.Prelude.{◌≡◌, ◌↔◌, ℕ, ◌+◌, ◌-◌, ◌<◌, ◌≤◌, ◌⊎◌, Option, List, [], length, take, IfOk, IsTrue, vec_len, slice_range};
+ghost use Rattle.std.specs.Prelude.{◌≡◌, ◌↔◌, ℕ, ◌+◌, ◌-◌, ◌<◌, ◌≤◌, Option, List, [], length, take, IfOk, IsTrue, vec_len, slice_range};
 ghost use Rattle.ram_outside.specs.Source.{TakeRule};
-ghost use Rattle.ram_text.specs.Lines.{Reading, HoldsLine, NextLineRule, HasNoFeed, IsFirstFeed};
+ghost use Rattle.ram_outside.specs.Conversation.{AsksNow, AsksOnly, asked_with};
+ghost use Rattle.ram_text.specs.Lines.{Reading, HoldsLine, NextLineRule, HasNoFeed, IsFirstFeed, IsOpenAsk, left_of};
 ghost use Rattle.ram_text.specs.Steps.{IsOpen, CutRule, FillRule, LastLineBytes, PassedFirst};
-ghost use Rattle.ram_report.specs.Reports.{gathered_in};
 ghost use Rattle.ram_text.specs.declared.lines.TheConstants.{LINE_LIMIT, SCRIPT_LIMIT, PIECE, ROOM};
 
 use memchr::memchr;
 use ram_bytes::{Budget, MemoryRefused};
-use ram_outside::{Source, Take};
-use ram_report::ReportWriter;
+use ram_outside::{Conversation, Take};
 use std::marker::Model;
 
 /// How many bytes a line has at most, without its line feed. A carriage return counts.
@@ -19,7 +18,7 @@ pub const LINE_LIMIT: usize = 70_000;
 /// How many bytes a script has at most.
 pub const SCRIPT_LIMIT: usize = 67_108_864;
 
-/// How many bytes the source is asked for at once.
+/// How many bytes are asked for at once.
 const PIECE: usize = 65_536;
 
 /// The room for the longest line that is not ended yet, and one more piece behind it.
@@ -36,11 +35,11 @@ pub enum NextLine {
     LineTooLong,
     /// The script has more than [`SCRIPT_LIMIT`] bytes, and no further line ends within them.
     ScriptTooLong,
-    /// The source failed, and counted it.
+    /// The script failed to come, and that was counted.
     Failed,
 }
 
-/// Reads the lines of a script from a source. It asks the source for 64 KiB at once, searches each byte once,
+/// Reads the lines of a script from a conversation. It asks for 64 KiB at once, searches each byte once,
 /// and cuts lines where they lie; only an unfinished line is moved, once, where room is needed behind it.
 #[derive(Drop)]
 pub struct LineReader {
@@ -108,7 +107,7 @@ impl LineReader {
         self.taken
     }
 
-    /// Whether the next `next_line` finds a line without asking the source.
+    /// Whether the next `next_line` finds a line without asking for more.
     ///
     /// # Clauses
     ///
@@ -116,7 +115,7 @@ impl LineReader {
     ///
     /// # Answers
     ///
-    /// - `true`, `false`: `true` exactly when the next `next_line` finds a line without asking the source. (`HoldsLine`)
+    /// - `true`, `false`: `true` exactly when the next `next_line` finds a line without asking for more. (`HoldsLine`)
     pub fn has_line(&self) -> bool
         ensures { IsTrue result ↔ HoldsLine self.now }
     {
@@ -126,10 +125,9 @@ impl LineReader {
         }
     }
 
-    /// Looks for the next line, and asks the source only where what is buffered does not decide the answer.
+    /// Looks for the next line, and asks for more only where what is buffered does not decide the answer.
     /// Of the limits of a line and of the script the one that is passed by the earlier byte decides, and where
-    /// one byte passes both, it is the script's. More is asked of the source only where all of the report is
-    /// handed over.
+    /// one byte passes both, it is the script's.
     ///
     /// # Clauses
     ///
@@ -137,16 +135,16 @@ impl LineReader {
     ///   afterwards follows it. Both limits are kept.
     /// - `rule`: `LineIsTooLong`, `ScriptIsTooLong`: A limit is told exactly where it is passed, the earlier byte first. Where
     ///   one byte passes both, it is the script's.
-    /// - `rule`: `LineFails`: Nothing is lost. What is buffered has no line feed, so every whole line that the source gave has
-    ///   been given.
-    /// - `rule`: `count`: An answer other than `Failed` leaves the source's count exactly as it was.
-    /// - `shown` (a `requires`): Where no whole line is buffered, all of the report is handed over. So answers are shown before
-    ///   more is asked of the source.
-    /// - `asks_nothing`: Where a whole line is buffered, it is given, and the source is not called.
+    /// - `rule`: `LineFails`: Nothing is lost. What is buffered has no line feed, so every whole line that came has been given.
+    /// - `rule`: `count`: An answer other than `Failed` leaves the count of failures exactly as it was.
+    /// - `asks`: Whenever more was asked for, no whole line was buffered, and what was written is what was written before
+    ///   (`IsOpenAsk`).
+    /// - `asks_nothing`: Where a whole line is buffered, it is given, and nothing is asked for.
+    /// - `same`: The sink is not touched.
     ///
     /// # Answers
     ///
-    /// Where a line is held already, `Line` comes and the source is not asked.
+    /// Where a line is held already, `Line` comes and nothing is asked for.
     ///
     /// - `Line`: the next line came, within both limits; it ends with a line feed, or with the script and is not empty. Then: it
     ///   is no longer left. (`GivesLine`)
@@ -155,17 +153,19 @@ impl LineReader {
     ///   nothing went. (`LineIsTooLong`)
     /// - `ScriptTooLong`: more is left than the script may have, and no line ends within that; the line's limit is not passed
     ///   before. Then: nothing went. (`ScriptIsTooLong`)
-    /// - `Failed`: the source counted a failure. Then: nothing went; no whole line is buffered. (`LineFails`)
-    pub fn next_line<S: Source>(&mut self, source: &mut S, _report: &ReportWriter) -> NextLine
-        requires shown { HoldsLine self.old ⊎ (gathered_in _report.now ≡ []) }
-        ensures rule { NextLineRule S.Source self.old self.new source.old source.new result }
-        ensures asks_nothing { HoldsLine self.old → (result ≡ NextLine.Line) × (source.new ≡ source.old) }
+    /// - `Failed`: a failure was counted. Then: nothing went; no whole line is buffered. (`LineFails`)
+    pub fn next_line<T: Conversation>(&mut self, talk: &mut T) -> NextLine
+        ensures rule { NextLineRule T.Conversation self.old self.new talk.old talk.new result }
+        ensures asks { AsksOnly (IsOpenAsk (left_of T.Conversation self.old talk.old)
+            (T.Sink.written (T.report talk.old))) (T.asked talk.old) (T.asked talk.new) }
+        ensures asks_nothing { HoldsLine self.old → (result ≡ NextLine.Line) × (talk.new ≡ talk.old) }
+        ensures same { T.report talk.new ≡ T.report talk.old }
     {
         loop {
             if let Some(answer) = self.cut() {
                 return answer;
             }
-            match self.fill(source) {
+            match self.fill(talk) {
                 Take::Got(_) => {}
                 Take::End => return self.last_line(),
                 Take::Failed => return NextLine::Failed,
@@ -203,18 +203,21 @@ impl LineReader {
         }
     }
 
-    // Asks the source for one more piece.
-    fn fill<S: Source>(&mut self, source: &mut S) -> Take
+    // Asks for one more piece.
+    fn fill<T: Conversation>(&mut self, talk: &mut T) -> Take
         requires { IsOpen self.old }
-        ensures { FillRule self.old self.new (S.left source.old) (S.left source.new)
-            (S.faults source.old) (S.faults source.new) result }
+        ensures rule { FillRule self.old self.new (T.left talk.old) (T.left talk.new)
+            (T.faults talk.old) (T.faults talk.new) result }
+        ensures asks { AsksNow (asked_with (T.left talk.old) (T.Sink.written (T.report talk.old)))
+            (T.asked talk.old) (T.asked talk.new) }
+        ensures same { T.report talk.new ≡ T.report talk.old }
     {
         let held = self.end - self.start;
         self.line_start = 0;
         self.line_end = 0;
         self.start = make_room(&mut self.bytes, self.start, self.end);
         self.end = self.start + held;
-        match read_piece(&mut self.bytes, self.end, source) {
+        match read_piece(&mut self.bytes, self.end, talk) {
             Take::Got(count) => {
                 self.end += count;
                 self.feed = first_feed(&self.bytes[self.start..self.end], held);
@@ -253,16 +256,19 @@ fn passed_first(taken: usize) -> NextLine
     }
 }
 
-/// Asks the source for one piece, which goes into `bytes` from `at` on.
-fn read_piece<S: Source>(bytes: &mut Vec<u8>, at: usize, source: &mut S) -> Take
+/// Asks for one piece, which goes into `bytes` from `at` on.
+fn read_piece<T: Conversation>(bytes: &mut Vec<u8>, at: usize, talk: &mut T) -> Take
     requires whole { vec_len bytes.old ≡ ROOM }
     requires room { at ≤ LINE_LIMIT }
     ensures whole { vec_len bytes.new ≡ ROOM }
     ensures before { take at bytes.new.items ≡ take at bytes.old.items }
-    ensures rule { TakeRule (S.left source.old) (S.left source.new)
-        (S.faults source.old) (S.faults source.new) (slice_range bytes.new.items at (at + PIECE)) result }
+    ensures rule { TakeRule (T.left talk.old) (T.left talk.new)
+        (T.faults talk.old) (T.faults talk.new) (slice_range bytes.new.items at (at + PIECE)) result }
+    ensures asks { AsksNow (asked_with (T.left talk.old) (T.Sink.written (T.report talk.old)))
+        (T.asked talk.old) (T.asked talk.new) }
+    ensures same { T.report talk.new ≡ T.report talk.old }
 {
-    source.take(&mut bytes[at..at + PIECE])
+    talk.take(&mut bytes[at..at + PIECE])
 }
 
 /// The first line feed of `bytes`, of which the first `searched` have none.

@@ -43,6 +43,13 @@ impl MemSource {
         }
     }
 
+    /// The bytes that are left.
+    pub fn left(&self) -> &[u8]
+        ensures { result.now ≡ self.now.left }
+    {
+        &self.bytes[self.given..]
+    }
+
     /// How many calls of `take` were made, up to 2^64 - 1.
     pub fn calls(&self) -> u64
         ensures { result ≡ self.now.calls.made }

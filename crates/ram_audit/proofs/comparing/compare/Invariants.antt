@@ -6,9 +6,10 @@ abbrev pub invariant-loop-n : goal.invariant-loop-n
 invariant-loop-n g l = record {
   within : l.at ≤ length l.text;
   some : 0 < length l.room;
-  taken : Consumes (g.S.Source.left l.initial.source) (g.S.Source.left l.source) (take l.at l.text);
-  as_known : is_some (g.S.Source.left l.source) ≡ is_some (g.S.Source.left l.initial.source);
-  counts : g.S.Source.faults l.source ≡ g.S.Source.faults l.initial.source;
+  taken : Consumes (g.T.Conversation.left l.initial.talk) (g.T.Conversation.left l.talk) (take l.at l.text);
+  as_known : is_some (g.T.Conversation.left l.talk) ≡ is_some (g.T.Conversation.left l.initial.talk);
+  counts : g.T.Conversation.faults l.talk ≡ g.T.Conversation.faults l.initial.talk;
+  same : g.T.Conversation.report l.talk ≡ g.T.Conversation.report l.initial.talk;
 }
 
 abbrev pub decreases-loop-n : goal.decreases-loop-n

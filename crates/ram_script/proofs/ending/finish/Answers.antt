@@ -5,13 +5,13 @@ use Rattle.ram_script.proofs.ending.finish.Goals as goal
 
 pub returns-in-Failed-clause-rule : goal.returns-in-Failed-clause-rule
 returns-in-Failed-clause-rule g c =
-    failed_at_last (due_in g.S.Source g.K.Sink c.args.dialogue.now) (due_in g.S.Source g.K.Sink c.print_ending.new.dialogue)
-    (g.K.Sink.written (sink_of c.args.dialogue.now)) (g.K.Sink.written (sink_of c.print_ending.new.dialogue)) (gathered_of c.print_ending.new.dialogue)
-    (g.K.Sink.faults (sink_of c.args.dialogue.now)) (g.K.Sink.faults (sink_of c.print_ending.new.dialogue)) c.args.tally refl c.print_ending.new.dialogue.room.now.writer.few c.args.ending c.in-Failed.ensures.rule
+    failed_at_last (due_in g.T.Conversation g.T.Sink.Sink c.args.dialogue.now) (due_in g.T.Conversation g.T.Sink.Sink c.print_ending.new.dialogue)
+    (g.T.Sink.Sink.written (sink_of g.T.Conversation c.args.dialogue.now)) (g.T.Sink.Sink.written (sink_of g.T.Conversation c.print_ending.new.dialogue)) (gathered_of c.print_ending.new.dialogue)
+    (g.T.Sink.Sink.faults (sink_of g.T.Conversation c.args.dialogue.now)) (g.T.Sink.Sink.faults (sink_of g.T.Conversation c.print_ending.new.dialogue)) c.args.tally refl c.print_ending.new.dialogue.room.now.writer.few c.args.ending c.in-Failed.ensures.rule
 
 pub returns-in-Failed-flush-clause-rule : goal.returns-in-Failed-flush-clause-rule
 returns-in-Failed-flush-clause-rule g c =
-    failed_at_flush (due_in g.S.Source g.K.Sink c.args.dialogue.now) (due_in g.S.Source g.K.Sink c.print_ending.new.dialogue)
-    (g.K.Sink.faults (sink_of c.args.dialogue.now)) (g.K.Sink.faults (sink_of c.print_ending.new.dialogue)) c.args.tally
-    (due_in g.S.Source g.K.Sink c.flush.new.self) (g.K.Sink.written (sink_of c.args.dialogue.now)) (g.K.Sink.written (sink_of c.flush.new.self)) (gathered_of c.flush.new.self)
-    (g.K.Sink.faults (sink_of c.flush.new.self)) refl c.flush.new.self.room.now.writer.few c.args.ending c.in-Done.ensures.rule c.in-Failed-flush.ensures.rule.0 c.in-Failed-flush.ensures.rule.1
+    failed_at_flush (due_in g.T.Conversation g.T.Sink.Sink c.args.dialogue.now) (due_in g.T.Conversation g.T.Sink.Sink c.print_ending.new.dialogue)
+    (g.T.Sink.Sink.faults (sink_of g.T.Conversation c.args.dialogue.now)) (g.T.Sink.Sink.faults (sink_of g.T.Conversation c.print_ending.new.dialogue)) c.args.tally
+    (due_in g.T.Conversation g.T.Sink.Sink c.flush.new.self) (g.T.Sink.Sink.written (sink_of g.T.Conversation c.args.dialogue.now)) (g.T.Sink.Sink.written (sink_of g.T.Conversation c.flush.new.self)) (gathered_of c.flush.new.self)
+    (g.T.Sink.Sink.faults (sink_of g.T.Conversation c.flush.new.self)) refl c.flush.new.self.room.now.writer.few c.args.ending c.in-Done.ensures.rule c.in-Failed-flush.ensures.rule.0 c.in-Failed-flush.ensures.rule.1

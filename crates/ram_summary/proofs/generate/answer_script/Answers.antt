@@ -5,7 +5,7 @@ use Rattle.ram_summary.proofs.generate.answer_script.Goals as goal
 pub returns-clause-ends : goal.returns-clause-ends
 returns-clause-ends g c first kind_is script_is image_is =
     c.answer_lines-image.ensures.leaves first (kind_is ∙ sym c.requires.ready.kind_is) (record {
-      left_is = rw c.new-dialogue.ensures.script_is (ap Some (c.new-script.ensures ∙ sym script_is));
+      left_is = rw (c.new-dialogue.ensures.talk_is, c.new-talk.ensures.script) (ap Some (c.new.ensures ∙ sym script_is));
       written_is = tt;
       image_is = image_is;
     })

@@ -7,17 +7,17 @@ use Rattle.ram_summary.proofs.Generated.{summed, not_summed, generated_there, im
 use Rattle.ram_summary.proofs.generate.generate_image.Goals as goal
 
 pub returns-in-Ok-clause-generate : goal.returns-in-Ok-clause-generate
-returns-in-Ok-clause-generate g c left source first known =
+returns-in-Ok-clause-generate g c heard first known =
     inl (generated_there c.args.seed first (g.K.Sink.written c.args.report.now) (g.K.Sink.written c.tell_summary.new.report) (g.O.Image.Image.bytes c.answer_script-image.result.0)
     (bytes_returned g.O.Image.Image.bytes (g.O.Opener.returned c.close.new.self)) c.tell_summary.result
     (handed_back g.O.Image.Image.bytes g.O.Opener.returned_known c.answer_script-image.result.0 (g.O.Opener.returned c.close.new.self) known.returned_known_is c.close.ensures.returned)
     (summed c.args.seed first c.answer_script-image.result.1 (g.K.Sink.written c.args.report.now) (g.K.Sink.written c.tell_summary.new.report) (g.O.Image.Image.bytes c.answer_script-image.result.0) c.tell_summary.result
     (rw c.in-Ok.is at (c.answer_script-image.ensures.ends first known.kind_is (known.script_is ∙ sym c.draw_script.ensures.text)
-    (image_known g.O.Image.Image.bytes c.args.seed first (beside left source g.K.Sink g.O.Opener c.args.report.now c.args.opener.now) g.O.Opener.returned_known c.in-Image.image known c.in-Image.ensures.next)))
+    (image_known g.O.Image.Image.bytes c.args.seed first (beside heard g.K.Sink g.O.Opener c.args.report.now c.args.opener.now) g.O.Opener.returned_known c.in-Image.image known c.in-Image.ensures.next)))
     c.tell_summary.ensures.writes))
 
 pub returns-clause-generate : goal.returns-clause-generate
-returns-clause-generate g c left source first known =
+returns-clause-generate g c heard first known =
     rw c.status_of.ensures.status
     (inl (generated_there c.args.seed first (g.K.Sink.written c.args.report.now) (g.K.Sink.written c.args.report.now) (g.O.Image.Image.bytes c.answer_script-image.result.0)
     (bytes_returned g.O.Image.Image.bytes (g.O.Opener.returned c.close.new.self)) (status_of c.answer_script-image.result.2)
@@ -26,4 +26,4 @@ returns-clause-generate g c left source first known =
     (rw c.in-Err.is (stops_with first c.answer_script-image.result.1 (g.O.Image.Image.bytes c.answer_script-image.result.0) (g.O.Image.Image.faults c.in-Image.image) (g.O.Image.Image.faults c.answer_script-image.result.0) c.in-Err.field-0
     (rw c.in-Err.is at c.answer_script-image.ensures.count)
     (rw c.in-Err.is at (c.answer_script-image.ensures.ends first known.kind_is (known.script_is ∙ sym c.draw_script.ensures.text)
-    (image_known g.O.Image.Image.bytes c.args.seed first (beside left source g.K.Sink g.O.Opener c.args.report.now c.args.opener.now) g.O.Opener.returned_known c.in-Image.image known c.in-Image.ensures.next))))))))
+    (image_known g.O.Image.Image.bytes c.args.seed first (beside heard g.K.Sink g.O.Opener c.args.report.now c.args.opener.now) g.O.Opener.returned_known c.in-Image.image known c.in-Image.ensures.next))))))))

@@ -4,8 +4,8 @@ use Rattle.ram_text.specs.Steps.{without_line}
 use Rattle.ram_text.proofs.Fills.{kept_through, refilled, still_clear}
 use Rattle.ram_text.proofs.lines.LineReader.fill.Goals as goal
 
-pub returns-in-Got : goal.returns-in-Got
-returns-in-Got g c =
+pub returns-in-Got-clause-rule : goal.returns-in-Got-clause-rule
+returns-in-Got-clause-rule g c =
     refilled c.self.inside.bytes.items c.make_room-self-inside.new.bytes.items c.read_piece.new.bytes.items c.self.inside.start c.self.inside.end c.make_room-self-inside.result c.in-Got.count 65536 _ _ _ _ _ _
     c.make_room-self-inside.ensures.kept c.read_piece.ensures.before (omega (arith, c.read_piece.new.bytes.ok.0)) c.in-Got.ensures.rule (sym (ap (λ (r : Reading). r.buffered) c.self.view_is)) refl (ap (λ (r : Reading). r.taken) c.self.view_is)
 
@@ -40,14 +40,14 @@ invariant_of-self-in-Failed g c =
       within = c.self.invariant.within;
     }
 
-pub returns-in-End : goal.returns-in-End
-returns-in-End g c =
+pub returns-in-End-clause-rule : goal.returns-in-End-clause-rule
+returns-in-End-clause-rule g c =
     let kept = kept_through c.self.inside.bytes.items c.make_room-self-inside.new.bytes.items c.read_piece.new.bytes.items c.self.inside.start c.self.inside.end c.make_room-self-inside.result c.make_room-self-inside.ensures.kept c.read_piece.ensures.before in
     let ends = c.in-End.ensures.rule in
     (ap (λ (xs : List ℕ). without_line (record { line = []; buffered = xs; taken = c.self.inside.taken })) kept ∙ ap without_line c.self.view_is, ends.ended, ends.same, ends.count)
 
-pub returns-in-Failed : goal.returns-in-Failed
-returns-in-Failed g c =
+pub returns-in-Failed-clause-rule : goal.returns-in-Failed-clause-rule
+returns-in-Failed-clause-rule g c =
     let kept = kept_through c.self.inside.bytes.items c.make_room-self-inside.new.bytes.items c.read_piece.new.bytes.items c.self.inside.start c.self.inside.end c.make_room-self-inside.result c.make_room-self-inside.ensures.kept c.read_piece.ensures.before in
     let fails = c.in-Failed.ensures.rule in
     (ap (λ (xs : List ℕ). without_line (record { line = []; buffered = xs; taken = c.self.inside.taken })) kept ∙ ap without_line c.self.view_is, fails.same, fails.count)
