@@ -1,0 +1,58 @@
+-- What came so far, after one more piece.
+use Rattle.std.proofs.Common.{◌≡◌, ℕ, ◌+◌, ◌-◌, ◌≤◌, Option, None, Some, is_some, List, ◌++◌, length, take, drop, sym, ap, ◌∙◌, arith, append_assoc, take-add, length-append, length-take-le, length-drop}
+use Rattle.std.proofs.lemmas.Slice.{take-put_mid_below}
+use Rattle.std.proofs.lemmas.List.{take-append-le}
+use Rattle.std.proofs.Math.Seq.{drop-append_seam}
+use Rattle.std.specs.Io.KnownBytes.{Consumes}
+use Rattle.ram_outside.specs.Source.{GivesNext}
+use Rattle.ram_outside.specs.Conversation.{Asked, AsksNow, AsksOnly}
+use Rattle.ram_outside.proofs.Asks.{asks_then, asks_once}
+use Rattle.ram_receive.specs.Receiving.{Went}
+use borrow.Rule.Slice.PartMut.{put_mid, post_of}
+
+-- bytes went, and then others
+went_on : (first mid last : Option (List ℕ)) (xs ys : List ℕ) → Consumes first mid xs → Consumes mid last ys
+    → is_some mid ≡ is_some first → Consumes first last (xs ++ ys)
+went_on None mid last xs ys one two known = tt
+went_on (Some zs) None last xs ys one two known = elim one [ ]
+went_on (Some zs) (Some ws) None xs ys one two known = elim two [ ]
+went_on (Some zs) (Some ws) (Some vs) xs ys one two known =
+    one ∙ ap (λ (l : List ℕ). xs ++ l) two ∙ sym (append_assoc xs ys vs)
+
+-- the front of a slice into whose back a piece was put
+front_of : (at k n : ℕ) (into piece : List ℕ) → at ≤ length into → n ≤ length piece
+    → take (at + n) (put_mid at k into piece) ≡ take at into ++ take n piece
+front_of at k n into piece inside within =
+    let seam : drop at (put_mid at k into piece) ≡ piece ++ post_of at k into =
+    ap (λ (m : ℕ). drop m (put_mid at k into piece)) (sym (length-take-le at into inside))
+    ∙ drop-append_seam (take at into) (piece ++ post_of at k into) in
+    take-add at n (put_mid at k into piece)
+    ∙ ap (λ (l : List ℕ). l ++ take n (drop at (put_mid at k into piece))) (take-put_mid_below at k into piece at (omega arith) inside)
+    ∙ ap (λ (l : List ℕ). take at into ++ take n l) seam
+    ∙ ap (λ (l : List ℕ). take at into ++ l) (take-append-le n piece (post_of at k into) within)
+
+pub came : (first before after : Option (List ℕ)) (into piece : List ℕ) (at k n faults faults' : ℕ) → at ≤ length into
+    → Went first before (take at into) → GivesNext before after faults faults' piece n
+    → Went first after (take (at + n) (put_mid at k into piece))
+came first before after into piece at k n faults faults' inside went gives = record {
+  next = rw (front_of at k n into piece inside gives.within)
+      (went_on first before after (take at into) (take n piece) went.next gives.next went.known);
+  known = gives.known ∙ went.known;
+}
+
+pub longer : (into piece : List ℕ) (at : ℕ) → at ≤ length into → length piece ≡ length into - at
+    → length (put_mid at (length into - at) into piece) ≡ length into
+longer into piece at inside long =
+    omega (
+      arith,
+      long,
+      length-append (take at into) (piece ++ post_of at (length into - at) into),
+      length-append piece (post_of at (length into - at) into),
+      length-take-le at into inside,
+      length-drop (length into - at) (drop at into),
+      length-drop at into,
+    )
+
+-- more was asked for once more, where it stood so
+pub more_asked : (stood : Asked → Type 0) (now : Asked) (a b c : Option (List Asked)) → AsksOnly stood a b → AsksNow now b c → stood now → AsksOnly stood a c
+more_asked stood now a b c before asks here = asks_then stood a b c before (asks_once stood now b c asks here)
