@@ -5,7 +5,7 @@ use Rattle.model_nbd.specs.declared.Header.{Header}
 use Rattle.model_nbd.specs.declared.NbdOperation.{NbdOperation}
 use Rattle.model_nbd.specs.declared.NbdOperation.TheVariants.{Refused, Read, Write, WriteZeroes, Flush, Disconnect}
 use Rattle.model_nbd.specs.declared.TheConstants.{READ, WRITE, DISCONNECT, FLUSH, WRITE_ZEROES, EINVAL, ENOSPC}
-use Rattle.model_nbd.specs.Operations.{operation_of, if_taken, is_whole, is_short, is_inside, is_moved, has_fua, read_asked, write_asked, flush_asked, zeroes_asked}
+use Rattle.model_nbd.specs.Operations.{request_asks, if_taken, has_whole_sectors, is_short, ends_on_disc, is_moved, has_fua, read_asked, write_asked, flush_asked, zeroes_asked}
 
 -- the command of what is asked, 9 for a refusal
 abbrev kind_of : NbdOperation → ℕ
@@ -44,7 +44,7 @@ taken false inside error operations z same = inl (ap kind_of (sym same))
 abbrev Lies : (size lba n : ℕ) → Header → Type 0
 Lies size lba n header = (header.offset ≡ 2048 * lba) × (header.len ≡ 2048 * n) × (header.offset + header.len ≤ size)
 
-lies : (size : ℕ) (header : Header) (z : NbdOperation) → is_whole header ≡ true → is_inside size header ≡ true
+lies : (size : ℕ) (header : Header) (z : NbdOperation) → has_whole_sectors header ≡ true → ends_on_disc size header ≡ true
     → header.offset / 2048 ≡ lba_of z → header.len / 2048 ≡ count_of z → Lies size (lba_of z) (count_of z) header
 lies size header z whole inside first many =
     let p = and_parts (header.offset % 2048 == 0) (header.len % 2048 == 0) whole in
@@ -56,41 +56,41 @@ lies size header z whole inside first many =
 read_lies : (size : ℕ) (header : Header) (z : NbdOperation) → read_asked size header ≡ z
     → (kind_of z ≡ 9) ⊎ ((kind_of z ≡ 0) × Lies size (lba_of z) (count_of z) header)
 read_lies size header z same =
-    elim (taken (is_moved header) (is_inside size header) EINVAL
+    elim (taken (is_moved header) (ends_on_disc size header) EINVAL
     (Read (header.offset / 2048) (header.len / 2048)) z same) [
       | inl no_one ↦ inl no_one
       | inr p ↦ inr (
         ap kind_of (sym p.2),
         lies size header z
-            (and_parts (nat_lt header.flags 2) (is_whole header)
-            (and_parts (nat_lt header.flags 2 && is_whole header) (is_short header) p.0).0).1 p.1 (ap lba_of p.2) (ap count_of p.2),
+            (and_parts (nat_lt header.flags 2) (has_whole_sectors header)
+            (and_parts (nat_lt header.flags 2 && has_whole_sectors header) (is_short header) p.0).0).1 p.1 (ap lba_of p.2) (ap count_of p.2),
       )
     ]
 
 write_lies : (size : ℕ) (header : Header) (z : NbdOperation) → write_asked size header ≡ z
     → (kind_of z ≡ 9) ⊎ ((kind_of z ≡ 1) × Lies size (lba_of z) (count_of z) header)
 write_lies size header z same =
-    elim (taken (is_moved header) (is_inside size header) ENOSPC
+    elim (taken (is_moved header) (ends_on_disc size header) ENOSPC
     (Write (header.offset / 2048) (header.len / 2048) (has_fua header)) z same) [
       | inl no_one ↦ inl no_one
       | inr p ↦ inr (
         ap kind_of (sym p.2),
         lies size header z
-            (and_parts (nat_lt header.flags 2) (is_whole header)
-            (and_parts (nat_lt header.flags 2 && is_whole header) (is_short header) p.0).0).1 p.1 (ap lba_of p.2) (ap count_of p.2),
+            (and_parts (nat_lt header.flags 2) (has_whole_sectors header)
+            (and_parts (nat_lt header.flags 2 && has_whole_sectors header) (is_short header) p.0).0).1 p.1 (ap lba_of p.2) (ap count_of p.2),
       )
     ]
 
 zero_lies : (size : ℕ) (header : Header) (z : NbdOperation) → zeroes_asked size header ≡ z
     → (kind_of z ≡ 9) ⊎ ((kind_of z ≡ 6) × Lies size (lba_of z) (count_of z) header)
 zero_lies size header z same =
-    elim (taken (nat_lt header.flags 4 && is_whole header) (is_inside size header) ENOSPC
+    elim (taken (nat_lt header.flags 4 && has_whole_sectors header) (ends_on_disc size header) ENOSPC
     (WriteZeroes (header.offset / 2048) (header.len / 2048) (has_fua header)) z same) [
       | inl no_one ↦ inl no_one
       | inr p ↦ inr (
         ap kind_of (sym p.2),
         lies size header z
-            (and_parts (nat_lt header.flags 4) (is_whole header) p.0).1 p.1 (ap lba_of p.2) (ap count_of p.2),
+            (and_parts (nat_lt header.flags 4) (has_whole_sectors header) p.0).1 p.1 (ap lba_of p.2) (ap count_of p.2),
       )
     ]
 
@@ -132,7 +132,7 @@ comes_late size header z same =
           ]
     ]
 
-pub comes : (size : ℕ) (header : Header) (z : NbdOperation) → operation_of size header ≡ z → Comes size header z
+pub comes : (size : ℕ) (header : Header) (z : NbdOperation) → request_asks size header ≡ z → Comes size header z
 comes size header z same =
     elim (choice (header.kind == READ) (read_asked size header) (if header.kind == WRITE then write_asked size header
     else if header.kind == DISCONNECT then Disconnect else if header.kind == FLUSH then flush_asked header
@@ -157,7 +157,7 @@ from_read size lba n header (IsZero k is) = absurd (omega (arith, k))
 from_read size lba n header (IsOther k) = absurd (omega (arith, k))
 from_read size lba n header (IsFlush k) = absurd (omega (arith, k))
 
-pub read_lies_on : (size lba n : ℕ) (header : Header) → operation_of size header ≡ Read lba n → Lies size lba n header
+pub read_lies_on : (size lba n : ℕ) (header : Header) → request_asks size header ≡ Read lba n → Lies size lba n header
 read_lies_on size lba n header same = from_read size lba n header (comes size header (Read lba n) same)
 
 from_write : (size lba n : ℕ) (fua : Bool) (header : Header) → Comes size header (Write lba n fua)
@@ -169,7 +169,7 @@ from_write size lba n fua header (IsZero k is) = absurd (omega (arith, k))
 from_write size lba n fua header (IsOther k) = absurd (omega (arith, k))
 from_write size lba n fua header (IsFlush k) = absurd (omega (arith, k))
 
-pub write_lies_on : (size lba n : ℕ) (fua : Bool) (header : Header) → operation_of size header ≡ Write lba n fua
+pub write_lies_on : (size lba n : ℕ) (fua : Bool) (header : Header) → request_asks size header ≡ Write lba n fua
     → (header.kind ≡ 1) × (header.offset ≡ 2048 * lba) × (header.len ≡ 2048 * n) × (header.offset + header.len ≤ size)
 write_lies_on size lba n fua header same = from_write size lba n fua header (comes size header (Write lba n fua) same)
 
@@ -181,5 +181,5 @@ from_zero size lba n fua header (IsZero k is) = is
 from_zero size lba n fua header (IsOther k) = absurd (omega (arith, k))
 from_zero size lba n fua header (IsFlush k) = absurd (omega (arith, k))
 
-pub zero_lies_on : (size lba n : ℕ) (fua : Bool) (header : Header) → operation_of size header ≡ WriteZeroes lba n fua → Lies size lba n header
+pub zero_lies_on : (size lba n : ℕ) (fua : Bool) (header : Header) → request_asks size header ≡ WriteZeroes lba n fua → Lies size lba n header
 zero_lies_on size lba n fua header same = from_zero size lba n fua header (comes size header (WriteZeroes lba n fua) same)

@@ -55,12 +55,12 @@ write_of fua first payload part =
     record { cdb = write_cdb fua part; payload = take (2048 * part.n) (drop (2048 * (part.lba - first)) payload) }
 
 -- n zeros
-unfoldable pub zero_bytes : ℕ → List ℕ
-zero_bytes n = replicate n 0
+unfoldable pub zeroes_for : ℕ → List ℕ
+zeroes_for n = replicate n 0
 
 -- a write of zeros to a part
 abbrev pub zero_of : Bool → Sectors → Command
-zero_of fua part = record { cdb = write_cdb fua part; payload = zero_bytes (2048 * part.n) }
+zero_of fua part = record { cdb = write_cdb fua part; payload = zeroes_for (2048 * part.n) }
 
 -- The commands that do a request, in their order. They are done up to the first that is not good.
 abbrev pub commands_of : NbdOperation → List ℕ → List Command

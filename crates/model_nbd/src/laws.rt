@@ -5,7 +5,7 @@ ghost use Rattle.model_nbd.specs.declared.Header.{Header};
 ghost use Rattle.model_nbd.specs.declared.NbdOperation.TheVariants as operations;
 ghost use Rattle.model_nbd.specs.declared.NextPhase.TheVariants as phases;
 ghost use Rattle.model_nbd.specs.Messages.{OptionRequest, IsOptionRequest, option_bytes, IsHeader, header_bytes, Request, IsRequest, request_bytes, Splits, greeting, reply_bytes};
-ghost use Rattle.model_nbd.specs.Operations.{operation_of};
+ghost use Rattle.model_nbd.specs.Operations.{request_asks};
 ghost use Rattle.model_nbd.specs.Handshake.{Serving, Nothing, option_answer};
 ghost use Rattle.model_nbd.specs.Commands.{parts, Covers, commands_of, payload_in};
 
@@ -65,7 +65,7 @@ pub fn worked_bytes()
     })
         ≡ 0x25 ∷ 0x60 ∷ 0x95 ∷ 0x13 ∷ 0 ∷ 0 ∷ 0 ∷ 0 ∷ 1 ∷ 2 ∷ 3 ∷ 4 ∷ 5 ∷ 6 ∷ 7 ∷ 8
         ∷ 0 ∷ 0 ∷ 0 ∷ 0 ∷ 0 ∷ 1 ∷ 0 ∷ 0 ∷ 0 ∷ 0 ∷ 8 ∷ 0 ∷ [] }
-    ensures operations { operation_of 32178176 (record { flags = 0; kind = 0; cookie = 0; offset = 65536; len = 2048 })
+    ensures operations { request_asks 32178176 (record { flags = 0; kind = 0; cookie = 0; offset = 65536; len = 2048 })
         ≡ operations.Read 32 1 }
     ensures reply { reply_bytes 5 0x0102030405060708 []
         ≡ 0x67 ∷ 0x44 ∷ 0x66 ∷ 0x98 ∷ 0 ∷ 0 ∷ 0 ∷ 5 ∷ 1 ∷ 2 ∷ 3 ∷ 4 ∷ 5 ∷ 6 ∷ 7 ∷ 8 ∷ [] }
@@ -78,10 +78,11 @@ pub fn worked_bytes()
           ++ (0 ∷ 3 ∷ 0xe8 ∷ 0x89 ∷ 4 ∷ 0x55 ∷ 0x65 ∷ 0xa9 ∷ 0 ∷ 0 ∷ 0 ∷ 7 ∷ 0 ∷ 0 ∷ 0 ∷ 1 ∷ 0 ∷ 0 ∷ 0 ∷ 0 ∷ []);
       next = phases.Transmission;
     } }
-    ensures structured { (zeros : Bool) → option_answer (Serving 32178176) zeros (record { number = 8; payload = [] }) ≡ record {
-      bytes = 0 ∷ 3 ∷ 0xe8 ∷ 0x89 ∷ 4 ∷ 0x55 ∷ 0x65 ∷ 0xa9 ∷ 0 ∷ 0 ∷ 0 ∷ 8 ∷ 0x80 ∷ 0 ∷ 0 ∷ 1 ∷ 0 ∷ 0 ∷ 0 ∷ 0 ∷ [];
-      next = phases.Options;
-    } }
+    ensures structured { (zeros : Bool)
+        → option_answer (Serving 32178176) zeros (record { number = 8; payload = [] }) ≡ record {
+          bytes = 0 ∷ 3 ∷ 0xe8 ∷ 0x89 ∷ 4 ∷ 0x55 ∷ 0x65 ∷ 0xa9 ∷ 0 ∷ 0 ∷ 0 ∷ 8 ∷ 0x80 ∷ 0 ∷ 0 ∷ 1 ∷ 0 ∷ 0 ∷ 0 ∷ 0 ∷ [];
+          next = phases.Options;
+        } }
 {}
 
 /// A read, a write or a write of zeros that is not refused lies on the disc.
@@ -90,11 +91,14 @@ pub fn worked_bytes()
 ///
 /// - `read`, `write`, `zero`: its bytes are those of the sectors that it is done in, and end on the disc.
 pub fn what_is_asked_lies_on_the_disc()
-    ensures read { (size lba n : ℕ) (header : Header) → operation_of size header ≡ operations.Read lba n
+    ensures read { (size lba n : ℕ) (header : Header) → request_asks size header ≡ operations.Read lba n
         → (header.offset ≡ 2048 * lba) × (header.len ≡ 2048 * n) × (header.offset + header.len ≤ size) }
-    ensures write { (size lba n : ℕ) (fua : Bool) (header : Header) → operation_of size header ≡ operations.Write lba n fua
-        → (header.kind ≡ 1) × (header.offset ≡ 2048 * lba) × (header.len ≡ 2048 * n) × (header.offset + header.len ≤ size) }
-    ensures zero { (size lba n : ℕ) (fua : Bool) (header : Header) → operation_of size header ≡ operations.WriteZeroes lba n fua
+    ensures write { (size lba n : ℕ) (fua : Bool) (header : Header)
+        → request_asks size header ≡ operations.Write lba n fua
+        → (header.kind ≡ 1) × (header.offset ≡ 2048 * lba) × (header.len ≡ 2048 * n)
+        × (header.offset + header.len ≤ size) }
+    ensures zero { (size lba n : ℕ) (fua : Bool) (header : Header)
+        → request_asks size header ≡ operations.WriteZeroes lba n fua
         → (header.offset ≡ 2048 * lba) × (header.len ≡ 2048 * n) × (header.offset + header.len ≤ size) }
 {}
 

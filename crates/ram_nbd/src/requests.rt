@@ -5,8 +5,8 @@ ghost use Rattle.std.specs.Bool.{OnTrue};
 ghost use Rattle.byteorder.specs.Endian.{big_number};
 ghost use Rattle.model_nbd.specs.declared.Header.{Header as Fields};
 ghost use Rattle.model_nbd.specs.Messages.{IsHeader, header_bytes};
-ghost use Rattle.model_nbd.specs.Operations.{operation_of, read_asked, write_asked, flush_asked, zeroes_asked};
-ghost use Rattle.model_nbd.specs.Operations.{has_fua, is_moved, is_whole, is_inside};
+ghost use Rattle.model_nbd.specs.Operations.{request_asks, read_asked, write_asked, flush_asked, zeroes_asked};
+ghost use Rattle.model_nbd.specs.Operations.{has_fua, is_moved, has_whole_sectors, ends_on_disc};
 
 use byteorder::{BigEndian, ByteOrder};
 use model_nbd::{
@@ -60,12 +60,12 @@ fn get_u64(bytes: &[u8], at: usize) -> u64
 /// # Answers
 ///
 /// - `Refused`: EINVAL for a command that is not in the table, a flag that the command does not take, part of a sector, too many
-///   bytes, a flush of a range, or a read past the end; ENOSPC for a write or zeros past the end. (`operation_of`)
+///   bytes, a flush of a range, or a read past the end; ENOSPC for a write or zeros past the end. (`request_asks`)
 /// - `Read`, `Write`, `WriteZeroes`: the sectors that the bytes are. (`read_asked`, `write_asked`, `zeroes_asked`)
-/// - `Flush`, `Disconnect`: the command of that name. (`flush_asked`, `operation_of`)
-pub fn operation_of(size: u64, header: Header) -> NbdOperation
+/// - `Flush`, `Disconnect`: the command of that name. (`flush_asked`, `request_asks`)
+pub fn request_asks(size: u64, header: Header) -> NbdOperation
     requires { size < 2048 * 2 ^ 32 }
-    ensures { result ≡ operation_of size header }
+    ensures { result ≡ request_asks size header }
 {
     if header.kind == READ {
         return read_asked(size, header);
@@ -90,7 +90,7 @@ fn read_asked(size: u64, header: Header) -> NbdOperation
     requires { size < 2048 * 2 ^ 32 }
     ensures { result ≡ read_asked size header }
 {
-    if !is_moved(header) || !is_inside(size, header) {
+    if !is_moved(header) || !ends_on_disc(size, header) {
         return NbdOperation::Refused { error: EINVAL };
     }
     NbdOperation::Read {
@@ -107,7 +107,7 @@ fn write_asked(size: u64, header: Header) -> NbdOperation
     if !is_moved(header) {
         return NbdOperation::Refused { error: EINVAL };
     }
-    if !is_inside(size, header) {
+    if !ends_on_disc(size, header) {
         return NbdOperation::Refused { error: ENOSPC };
     }
     NbdOperation::Write {
@@ -132,10 +132,10 @@ fn zeroes_asked(size: u64, header: Header) -> NbdOperation
     requires { size < 2048 * 2 ^ 32 }
     ensures { result ≡ zeroes_asked size header }
 {
-    if header.flags >= 4 || !is_whole(header) {
+    if header.flags >= 4 || !has_whole_sectors(header) {
         return NbdOperation::Refused { error: EINVAL };
     }
-    if !is_inside(size, header) {
+    if !ends_on_disc(size, header) {
         return NbdOperation::Refused { error: ENOSPC };
     }
     NbdOperation::WriteZeroes {
@@ -156,20 +156,20 @@ fn has_fua(header: Header) -> bool
 fn is_moved(header: Header) -> bool
     ensures { result ≡ is_moved header }
 {
-    header.flags < 2 && is_whole(header) && header.len <= MOST_BYTES
+    header.flags < 2 && has_whole_sectors(header) && header.len <= MOST_BYTES
 }
 
 /// Whether the request begins and ends with a sector.
-fn is_whole(header: Header) -> bool
-    ensures { result ≡ is_whole header }
+fn has_whole_sectors(header: Header) -> bool
+    ensures { result ≡ has_whole_sectors header }
 {
     header.offset % 2048 == 0 && header.len % 2048 == 0
 }
 
 /// Whether the request ends on a disc of `size` bytes.
-fn is_inside(size: u64, header: Header) -> bool
+fn ends_on_disc(size: u64, header: Header) -> bool
     requires { size < 2048 * 2 ^ 32 }
-    ensures exact { result ≡ is_inside size header }
+    ensures exact { result ≡ ends_on_disc size header }
     ensures inside { OnTrue result (header.offset + header.len ≤ size) }
 {
     header.offset <= size && u64::from(header.len) <= size - header.offset

@@ -36,10 +36,12 @@ pub enum Received {
 /// - `Ended`: nothing more was left. Then: the bytes before that are in the slice's front; nothing was counted. (`ReceiveRule`)
 /// - `Failed`: a failure was counted. Then: the bytes before that are in the slice's front. (`ReceiveRule`)
 pub fn receive<T: Conversation>(talk: &mut T, into: &mut [u8]) -> Received
-    ensures rule { ReceiveRule (T.left talk.old) (T.left talk.new) (T.faults talk.old) (T.faults talk.new) into.new result }
+    ensures rule { ReceiveRule (T.left talk.old) (T.left talk.new)
+        (T.faults talk.old) (T.faults talk.new) into.new result }
     ensures length { length into.new ≡ length into.old }
     ensures same { T.report talk.new ≡ T.report talk.old }
-    ensures asks { AsksOnly (HasWritten (T.Sink.Sink.written (T.report talk.old))) (T.asked talk.old) (T.asked talk.new) }
+    ensures asks { AsksOnly (HasWritten (T.Sink.Sink.written (T.report talk.old)))
+        (T.asked talk.old) (T.asked talk.new) }
 {
     let mut at = 0;
     while at < into.len() {

@@ -47,8 +47,10 @@ pub fn finish<T: Conversation>(
     ensures ends { HasSameEnds dialogue.old dialogue.new }
     ensures nothing { AsksNothing T.Conversation dialogue.old dialogue.new }
     ensures rule { FinishRule (due_in T.Conversation T.Sink.Sink dialogue.old)
-        (sink_view (T.Sink.written (sink_of T.Conversation dialogue.old)) (T.Sink.faults (sink_of T.Conversation dialogue.old)))
-        (sink_view (T.Sink.written (sink_of T.Conversation dialogue.new)) (T.Sink.faults (sink_of T.Conversation dialogue.new))) tally ending result }
+        (sink_view (T.Sink.written (sink_of T.Conversation dialogue.old))
+        (T.Sink.faults (sink_of T.Conversation dialogue.old)))
+        (sink_view (T.Sink.written (sink_of T.Conversation dialogue.new))
+        (T.Sink.faults (sink_of T.Conversation dialogue.new))) tally ending result }
 {
     match print_ending(dialogue, tally, ending) {
         Print::Failed => return Status::SinkFault,
@@ -69,8 +71,10 @@ fn print_ending<T: Conversation>(
     requires { tally.lines < 2 ^ 64 - 1 }
     ensures ends { HasSameEnds dialogue.old dialogue.new }
     ensures nothing { AsksNothing T.Conversation dialogue.old dialogue.new }
-    ensures rule { LastLineRule (due_in T.Conversation T.Sink.Sink dialogue.old) (due_in T.Conversation T.Sink.Sink dialogue.new)
-        (T.Sink.faults (sink_of T.Conversation dialogue.old)) (T.Sink.faults (sink_of T.Conversation dialogue.new)) tally ending result }
+    ensures rule { LastLineRule (due_in T.Conversation T.Sink.Sink dialogue.old)
+        (due_in T.Conversation T.Sink.Sink dialogue.new)
+        (T.Sink.faults (sink_of T.Conversation dialogue.old))
+        (T.Sink.faults (sink_of T.Conversation dialogue.new)) tally ending result }
 {
     let line = tally.lines + 1;
     let last = match ending {

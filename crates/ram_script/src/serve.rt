@@ -41,7 +41,8 @@ fn answer_line<D: Drive, T: Conversation>(
     ensures counts { StopCounts
         (counts_with T.Conversation T.Sink.Sink dialogue.old (faults_of D.Caching D.Image.Image inserted.old))
         (counts_with T.Conversation T.Sink.Sink dialogue.new (faults_of D.Caching D.Image.Image inserted.new)) result }
-    ensures known { is_some (due_in T.Conversation T.Sink.Sink dialogue.new) ≡ is_some (due_in T.Conversation T.Sink.Sink dialogue.old) }
+    ensures known { is_some (due_in T.Conversation T.Sink.Sink dialogue.new)
+        ≡ is_some (due_in T.Conversation T.Sink.Sink dialogue.old) }
     ensures tally { TallyRule state.old.tally state.new.tally result }
     ensures same_asked { T.asked (talk_of dialogue.new) ≡ T.asked (talk_of dialogue.old) }
     ensures same_reading { reader_of dialogue.new ≡ reader_of dialogue.old }
@@ -80,7 +81,8 @@ fn serve_lines<D: Drive, T: Conversation>(
         (run_view T.Conversation T.Sink.Sink dialogue.old state.old.tally)
         → is_some (due_in T.Conversation T.Sink.Sink dialogue.old) ≡ true
         → AsksOnly (IsAnsweredBy first) (T.asked (talk_of dialogue.old)) (T.asked (talk_of dialogue.new)) }
-    ensures known { is_some (due_in T.Conversation T.Sink.Sink dialogue.new) ≡ is_some (due_in T.Conversation T.Sink.Sink dialogue.old) }
+    ensures known { is_some (due_in T.Conversation T.Sink.Sink dialogue.new)
+        ≡ is_some (due_in T.Conversation T.Sink.Sink dialogue.old) }
     ensures few { state.new.tally.lines < 2 ^ 63 }
 {
     let mut inserted = inserted;
@@ -159,13 +161,16 @@ pub fn serve<D: Drive, T: Conversation>(
     ensures other { IsOfRun result.1 }
     ensures same { HasSameEnds dialogue.old dialogue.new }
     ensures leaves { (first : Beginning) → first.kind ≡ rooms.drive.kind
-        → Begins first (T.left (talk_of dialogue.old)) (T.Sink.written (sink_of T.Conversation dialogue.old)) (D.Image.bytes image)
+        → Begins first (T.left (talk_of dialogue.old)) (T.Sink.written (sink_of T.Conversation dialogue.old))
+        (D.Image.bytes image)
         → StandsWith first
-        (aftermath (T.left (talk_of dialogue.new)) (T.Sink.written (sink_of T.Conversation dialogue.new)) (D.Image.bytes result.0))
+        (aftermath (T.left (talk_of dialogue.new)) (T.Sink.written (sink_of T.Conversation dialogue.new))
+        (D.Image.bytes result.0))
         (counts_with T.Conversation T.Sink.Sink dialogue.old (D.Image.faults image))
         (counts_with T.Conversation T.Sink.Sink dialogue.new (D.Image.faults result.0)) result.1 }
     ensures asks { (first : Beginning) → first.kind ≡ rooms.drive.kind
-        → Begins first (T.left (talk_of dialogue.old)) (T.Sink.written (sink_of T.Conversation dialogue.old)) (D.Image.bytes image)
+        → Begins first (T.left (talk_of dialogue.old)) (T.Sink.written (sink_of T.Conversation dialogue.old))
+        (D.Image.bytes image)
         → AsksOnly (IsAnsweredBy first) (T.asked (talk_of dialogue.old)) (T.asked (talk_of dialogue.new)) }
     ensures counts { StatusCounts (counts_with T.Conversation T.Sink.Sink dialogue.old (D.Image.faults image))
         (counts_with T.Conversation T.Sink.Sink dialogue.new (D.Image.faults result.0)) result.1 }

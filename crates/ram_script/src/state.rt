@@ -105,7 +105,8 @@ pub fn take_line<T: Conversation>(
     ensures ends { HasSameEnds dialogue.old dialogue.new }
     ensures next { (first : Beginning) (far : SoFar first)
         → IsAt far (run_view T.Conversation T.Sink.Sink dialogue.old state.old.tally)
-        → NextRule far (run_view T.Conversation T.Sink.Sink dialogue.new state.new.tally) state.new.payload.items result }
+        → NextRule far (run_view T.Conversation T.Sink.Sink dialogue.new state.new.tally)
+        state.new.payload.items result }
     ensures counts { (image : ℕ) → StopCounts (counts_with T.Conversation T.Sink.Sink dialogue.old image)
         (counts_with T.Conversation T.Sink.Sink dialogue.new image) result }
     ensures asks { AsksShown T.Conversation T.Sink.Sink dialogue.old dialogue.new }
@@ -151,8 +152,10 @@ pub fn tell<T: Conversation>(
     ensures tells { TellRule (run_view T.Conversation T.Sink.Sink dialogue.old state.old.tally)
         (run_view T.Conversation T.Sink.Sink dialogue.new state.new.tally)
         (data_told outcome state.old.data_in.items found.now) outcome result }
-    ensures known { is_some (due_in T.Conversation T.Sink.Sink dialogue.new) ≡ is_some (due_in T.Conversation T.Sink.Sink dialogue.old) }
-    ensures count { TellCount (T.Sink.faults (sink_of T.Conversation dialogue.old)) (T.Sink.faults (sink_of T.Conversation dialogue.new)) outcome result }
+    ensures known { is_some (due_in T.Conversation T.Sink.Sink dialogue.new)
+        ≡ is_some (due_in T.Conversation T.Sink.Sink dialogue.old) }
+    ensures count { TellCount (T.Sink.faults (sink_of T.Conversation dialogue.old))
+        (T.Sink.faults (sink_of T.Conversation dialogue.new)) outcome result }
     ensures tally { TallyRule state.old.tally state.new.tally result }
     ensures room { HasRoom state.old → HasRoom state.new }
 {

@@ -9,7 +9,7 @@ use Rattle.std.specs.List.Sorted.{IsStrictlyIncreasing}
 use Rattle.std.proofs.lemmas.Bool.{cases_eq, cases_lt, lt-ltb, le-ltb, ne_eqb, eq-eqb}
 use Rattle.std.proofs.lemmas.List.Kept.{AllPairs-from_increasing}
 use Rattle.model_scrub.specs.Scrubs.{with_found, without_block}
-use Rattle.ram_scrub.specs.Search.{StandsAt, IsGapAt}
+use Rattle.ram_scrub.specs.Search.{IsFoundAt, IsGapAt}
 
 -- what passes is the first i
 filter_header : (p : ℕ → Bool) (xs : List ℕ) (i : ℕ) → ((k : ℕ) → k < i → k < length xs → p (get_or xs k 0) ≡ true) → ((k : ℕ) → i ≤ k → k < length xs → p (get_or xs k 0) ≡ false) → filter p xs ≡ take i xs
@@ -63,7 +63,7 @@ never_falls found rise i j low below = elim (cases_eq i j) [
 ]
 
 module _ (found : List ℕ) (block index : ℕ) (rise : IsStrictlyIncreasing found) where
-  pub kept_at_index : StandsAt found block index → take index found ≡ filter (λ j. nat_lt j block) found
+  pub kept_at_index : IsFoundAt found block index → take index found ≡ filter (λ j. nat_lt j block) found
   kept_at_index at = sym (filter_header (λ j. nat_lt j block) found index
       (λ k low below. lt-ltb (get_or found k 0) block (let h = rising found k index rise low at.inside in let e = at.here in omega (arith, h, e)))
       (λ k from below. le-ltb (get_or found k 0) block (let h = never_falls found rise index k from below in let e = at.here in omega (arith, h, e))))
@@ -78,7 +78,7 @@ module _ (found : List ℕ) (block index : ℕ) (rise : IsStrictlyIncreasing fou
       (λ k low below. le-ltb block (get_or found k 0) (let h = at.lower k low in omega (arith, h)))
       (λ k from below. lt-ltb block (get_or found k 0) (at.higher k from below)))
 
-  higher_at_index : StandsAt found block index → drop (suc index) found ≡ filter (λ j. nat_lt block j) found
+  higher_at_index : IsFoundAt found block index → drop (suc index) found ≡ filter (λ j. nat_lt block j) found
   higher_at_index at = sym (filter_back (λ j. nat_lt block j) found (suc index)
       (λ k low below. le-ltb block (get_or found k 0) (let h = never_falls found rise k index (omega (arith, low)) at.inside in let e = at.here in omega (arith, h, e)))
       (λ k from below. lt-ltb block (get_or found k 0) (let h = rising found index k rise (omega (arith, from)) below in let e = at.here in omega (arith, h, e))))
@@ -95,13 +95,13 @@ module _ (found : List ℕ) (block index : ℕ) (rise : IsStrictlyIncreasing fou
       same (y ∷ ys) = refl
   split_at (x ∷ xs) (suc k) inside = ap (λ (l : List ℕ). x ∷ l) (split_at xs k (omega (arith, inside)))
 
-  pub there_at_index : StandsAt found block index → found ≡ with_found block found
+  pub there_at_index : IsFoundAt found block index → found ≡ with_found block found
   there_at_index at =
       split_at found index at.inside
       ∙ ap (λ (b : ℕ). take index found ++ b ∷ drop (suc index) found) at.here
       ∙ ap₂ (λ (u v : List ℕ). u ++ block ∷ v) (kept_at_index at) (higher_at_index at)
 
-  pub out_at_index : StandsAt found block index → remove found index ≡ without_block block found
+  pub out_at_index : IsFoundAt found block index → remove found index ≡ without_block block found
   out_at_index at = sym (filter_but (λ j. not (eqb j block)) found index at.inside
       (ap not (eq-eqb (get_or found index 0) block at.here))
       (λ k ne below. ap not (ne_eqb (get_or found k 0) block (λ same. apart k ne below same))))
@@ -123,10 +123,10 @@ module _ (found : List ℕ) (block index : ℕ) (rise : IsStrictlyIncreasing fou
 index_from : (found : List ℕ) (block : ℕ) (r : Result ℕ ℕ)
     → MatchResult r (λ i. (i < length found) × (get_or found i 0 ≡ block))
     (λ i. (i ≤ length found) × ((k : ℕ) → k < i → get_or found k 0 < block) × ((k : ℕ) → i ≤ k → k < length found → block < get_or found k 0))
-    → MatchResult r (StandsAt found block) (IsGapAt found block)
+    → MatchResult r (IsFoundAt found block) (IsGapAt found block)
 index_from found block (Ok i) h = record { inside = h.0; here = h.1 }
 index_from found block (Err i) h = record { within = h.0; lower = h.1; higher = h.2 }
 
 pub found_index : (found : List ℕ) (block : ℕ) (r : Result ℕ ℕ) → IsStrictlyIncreasing found → IsBinarySearchResult (λ y. nat_cmp y block) found r
-    → MatchResult r (StandsAt found block) (IsGapAt found block)
+    → MatchResult r (IsFoundAt found block) (IsGapAt found block)
 found_index found block r rise position = index_from found block r (searched found block r position (never_falls found rise))

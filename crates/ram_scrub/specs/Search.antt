@@ -2,7 +2,7 @@
 use Rattle.std.specs.Prelude.{◌≡◌, ℕ, ◌<◌, ◌≤◌, List, length, slice_index}
 
 -- the block stands there
-pub record StandsAt (found : List ℕ) (block index : ℕ) : Type 0 where
+pub record IsFoundAt (found : List ℕ) (block index : ℕ) : Type 0 where
   pub inside : index < length found
   pub here : slice_index found index ≡ block
 

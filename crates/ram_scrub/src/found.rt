@@ -5,7 +5,7 @@ ghost use Rattle.std.specs.List.{All};
 ghost use Rattle.std.specs.List.Sorted.{IsStrictlyIncreasing};
 ghost use Rattle.std.proofs.Props.{props};
 ghost use Rattle.ram_sectors.specs.declared.TheConstants.{MOST_BLOCKS};
-ghost use Rattle.ram_scrub.specs.Search.{StandsAt, IsGapAt};
+ghost use Rattle.ram_scrub.specs.Search.{IsFoundAt, IsGapAt};
 ghost use Rattle.ram_scrub.specs.declared.found.TheConstants.{SCRUB_MEMORY};
 
 use ram_bytes::{Budget, MemoryRefused};
@@ -28,7 +28,7 @@ pub struct FoundBlocks {
 /// The index of a block among blocks that rise, by halving, or else where it would stand.
 fn search(found: &[u32], block: u32) -> Result<usize, usize>
     requires { IsStrictlyIncreasing found.now }
-    ensures { MatchResult result (StandsAt found.now block) (IsGapAt found.now block) }
+    ensures { MatchResult result (IsFoundAt found.now block) (IsGapAt found.now block) }
 {
     found.binary_search(&block)
 }

@@ -1,6 +1,6 @@
 use Rattle.std.proofs.Common.{◌∙◌, subst, List, ℕ, arith}
 use Rattle.ram_sectors.specs.declared.TheConstants.{MOST_BLOCKS}
-use Rattle.ram_scrub.specs.Search.{StandsAt, IsGapAt}
+use Rattle.ram_scrub.specs.Search.{IsFoundAt, IsGapAt}
 use Rattle.ram_scrub.proofs.Halving.{there_at_index, put_at_gap}
 use Rattle.ram_scrub.proofs.Rooms.{one_more}
 use Rattle.ram_scrub.proofs.found.FoundBlocks.put.Goals as goal
@@ -17,7 +17,7 @@ unreachable-requires c =
 pub returns-in-Ok : goal.returns-in-Ok
 returns-in-Ok c =
     there_at_index c.args.self.now.numbers.items c.args.block c.in-Ok.field-0 c.args.self.now.rise
-    (subst (λ (xs : List ℕ). StandsAt xs c.args.block c.in-Ok.field-0) c.deref.ensures.value c.in-Ok.ensures)
+    (subst (λ (xs : List ℕ). IsFoundAt xs c.args.block c.in-Ok.field-0) c.deref.ensures.value c.in-Ok.ensures)
 
 pub returns-in-Ok-insert : goal.returns-in-Ok-insert
 returns-in-Ok-insert c =

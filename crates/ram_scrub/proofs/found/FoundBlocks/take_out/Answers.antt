@@ -1,5 +1,5 @@
 use Rattle.std.proofs.Common.{◌∙◌, subst, List, ℕ}
-use Rattle.ram_scrub.specs.Search.{StandsAt, IsGapAt}
+use Rattle.ram_scrub.specs.Search.{IsFoundAt, IsGapAt}
 use Rattle.ram_scrub.proofs.Halving.{out_at_index, out_at_gap}
 use Rattle.ram_scrub.proofs.found.FoundBlocks.take_out.Goals as goal
 
@@ -7,7 +7,7 @@ pub returns-in-Ok : goal.returns-in-Ok
 returns-in-Ok c =
     c.remove.ensures.items
     ∙ out_at_index c.args.self.now.numbers.items c.args.block c.in-Ok.index c.args.self.now.rise
-    (subst (λ (xs : List ℕ). StandsAt xs c.args.block c.in-Ok.index) c.deref.ensures.value c.in-Ok.ensures)
+    (subst (λ (xs : List ℕ). IsFoundAt xs c.args.block c.in-Ok.index) c.deref.ensures.value c.in-Ok.ensures)
 
 pub returns-in-Err : goal.returns-in-Err
 returns-in-Err c =
