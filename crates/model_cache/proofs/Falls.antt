@@ -33,7 +33,8 @@ use Rattle.model_cache.specs.declared.TickOut.TheVariants as ticks
 use Rattle.model_cache.specs.Values.{Values, Contents, Has, MayHave, HasValue, HasBlock, IsTaken, AreTaken, settled_values, settled_but, waits, no_values, with_older, lifted, candidates_of, with_written, cached, values_now, is_among}
 use Rattle.model_cache.specs.Shown.{CacheShown, goes_into_cache}
 use Rattle.model_cache.specs.Steps.{ReadContents, VerifyContents, ExpandContents, SyncContents, TickContents, PowerContents, ThroughContents, CachedContents, WriteContents, FormatContents, FormatValues, FullValues}
-use Rattle.model_cache.specs.Falling.{EachValue, FallsTo, AreAmong, FallsWithin, value_written, LiesIn, Misses}
+use Rattle.model_cache.specs.Falling.{EachValue, FallsTo, FallsWithin, value_written, LiesIn, Misses}
+use Rattle.model_cache.proofs.Among.{AreAmong}
 use Rattle.model_cache.proofs.Members.{Contains-none, Contains-first, Contains-later, Contains-cases, Contains-passed}
 use Rattle.model_cache.proofs.ReplacedBlocks.{unreached_block, reached_block, missed_block, as_long_as}
 

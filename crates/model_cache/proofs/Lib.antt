@@ -1,3 +1,4 @@
+pub mod Among
 pub mod SameBlocks
 pub mod Plainly
 pub mod Members

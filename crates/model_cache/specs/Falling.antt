@@ -14,10 +14,6 @@ EachValue so i v = HasBlock v.disc i → (bytes : List ℕ) → HasValue v i byt
 abbrev pub FallsTo : (List ℕ → Type 0) → ℕ → Contents → Type 0
 FallsTo so i s = All (EachValue so i) (candidates_of s)
 
--- if the disc has the block, each of the block's values is one of these
-abbrev pub AreAmong : List (List ℕ) → ℕ → Values → Type 0
-AreAmong choices i v = EachValue (Contains choices) i v
-
 -- whichever disc is found, it has one of these as the block's value, or has no block of this number
 abbrev pub FallsWithin : List (List ℕ) → ℕ → Contents → Type 0
 FallsWithin choices i s = FallsTo (Contains choices) i s

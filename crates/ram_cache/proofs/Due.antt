@@ -21,7 +21,8 @@ use Rattle.model_cache.specs.Chains.{WritesBack, Flushes}
 use Rattle.model_cache.specs.Drains.{IsRefusal, Refuses, Tries, StopsTrying}
 use Rattle.model_cache.proofs.Refusals.{tells_first}
 use Rattle.ram_cache.specs.Rooms.{pending_at, due_in, FirstOf}
-use Rattle.ram_cache.specs.Flushes.{CanFlush, FlushesAt, FlushContents, DrainedDue, DrainsDue, DrainedSoFar, due_of, left_at, first_told, drain_out}
+use Rattle.ram_cache.specs.Flushes.{CanFlush, FlushesAt, FlushContents, DrainedDue, DrainsDue, due_of, left_at, first_told, drain_out}
+use Rattle.ram_cache.proofs.DrainedSoFar.{DrainedSoFar}
 use Rattle.ram_cache.proofs.Places.{Contains-held, but_removed, behind_removed, first_due, none_due, inside_at}
 use Rattle.ram_cache.proofs.OneFlush.{not_partly}
 

@@ -32,7 +32,8 @@ use Rattle.model_cache.specs.Steps.{VerifyContents, PowerContents, FormatContent
 use Rattle.model_cache.specs.Causes.{leaves_after_read, leaves_after_full, leaves_after_rewrite, leaves_after_format, leaves_after_expansion}
 use Rattle.model_cache.proofs.Members.{Contains-kept, Contains-passed}
 use Rattle.model_cache.proofs.SameBlocks.{stands_plainly, takes_itself}
-use Rattle.ram_cache.specs.Calls.{drops_all, kept_by_lists, LeftByLists, LeftAfter, LeftExpanded}
+use Rattle.ram_cache.specs.Calls.{drops_all, LeftByLists, LeftAfter, LeftExpanded}
+use Rattle.ram_cache.proofs.KeptByLists.{kept_by_lists}
 use Rattle.ram_cache.proofs.Entering.{long_by, enters, all_dropped, empty}
 
 -- ---- a verification

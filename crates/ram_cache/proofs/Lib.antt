@@ -1,3 +1,6 @@
+pub mod KeptByLists
+pub mod ReadSoFar
+pub mod DrainedSoFar
 pub mod Beginnings
 pub mod Coming
 pub mod Due

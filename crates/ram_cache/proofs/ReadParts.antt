@@ -25,7 +25,8 @@ use Rattle.model_cache.specs.Causes.{ReadsPart, ReadsParts, EndsReading, ReadPar
 use Rattle.model_cache.proofs.Members.{Contains-none, Contains-cases}
 use Rattle.ram_requests.proofs.ReadBytes.{done, prefix_none, prefix_more, prefix_all}
 use Rattle.ram_cache.specs.Rooms.{pending_at, FirstOf}
-use Rattle.ram_cache.specs.Reading.{PartContents, ReadSoFar}
+use Rattle.ram_cache.specs.Reading.{PartContents}
+use Rattle.ram_cache.proofs.ReadSoFar.{ReadSoFar}
 use Rattle.ram_cache.proofs.Places.{Contains-held}
 use Rattle.ram_cache.proofs.Entering.{long_by}
 

@@ -1,5 +1,5 @@
 -- What the calls of a drive with a write cache do beside their disc's. (This project's own.)
-use Rattle.std.specs.Prelude.{◌≡◌, ℕ, ◌+◌, Bool, true, not, ◌&&◌, nat_lt, if◌then◌else◌, MatchBool, Option, Some, None, List, []}
+use Rattle.std.specs.Prelude.{◌≡◌, ℕ, ◌+◌, Bool, true, not, ◌&&◌, nat_lt, if◌then◌else◌, MatchBool, List, []}
 use Rattle.model_sectors.specs.Requests.{blocks_covered}
 use Rattle.model_drive.specs.declared.Kind.{Kind}
 use Rattle.model_drive.specs.declared.Kind.TheVariants as kinds
@@ -8,7 +8,6 @@ use Rattle.model_drive.specs.declared.FormatOut.{FormatOut}
 use Rattle.model_drive.specs.declared.FormatOut.TheVariants as formats
 use Rattle.model_drive.specs.declared.ExpandOut.{ExpandOut}
 use Rattle.model_drive.specs.declared.ExpandOut.TheVariants as expands
-use Rattle.model_places.specs.Places.{Lists}
 use Rattle.model_drive.specs.Shown.{Shown, IsOn, block_count}
 use Rattle.model_drive.specs.Tells.{HasDisc}
 use Rattle.model_cache.specs.declared.TheConstants.{CACHED_AT_ONCE}
@@ -40,11 +39,6 @@ WritesOn old new into_cache lba n bytes out =
 abbrev pub WritesContents : CacheShown → CacheShown → (Contents → Type 0) → Contents → Bool → (lba n : ℕ) → List ℕ → WriteOut → Type 0
 WritesContents old new after s into_cache lba n bytes out =
     MatchBool (goes_in into_cache lba n) (CachedContents after s lba n bytes out) (ThroughContents old new after s lba n bytes out)
-
--- what is left pending by the lists that are in use
-abbrev pub kept_by_lists : Option Lists → List (ℕ × List ℕ) → List (ℕ × List ℕ)
-kept_by_lists None pending = []
-kept_by_lists (Some lists) pending = pending
 
 -- of the pending blocks those are left, or none where the disc is not formatted
 abbrev pub LeftByLists : Shown → (pending left : List (ℕ × List ℕ)) → Type 0

@@ -1,14 +1,12 @@
 -- A read while blocks are pending, block after block: for the code of a drive with a write cache. (This project's own.)
-use Rattle.std.specs.Prelude.{◌≡◌, ℕ, ◌*◌, List, [], ◌∷◌, length, take}
-use Rattle.model_sectors.specs.Discs.{block_of, sectors_of}
+use Rattle.std.specs.Prelude.{◌≡◌, ℕ, List, [], ◌∷◌}
+use Rattle.model_sectors.specs.Discs.{block_of}
 use Rattle.model_sectors.specs.Requests.{filled_by}
 use Rattle.model_sectors.specs.declared.ReadOut.{ReadOut}
 use Rattle.model_sectors.specs.declared.ReadOut.TheVariants as reads
-use Rattle.model_drive.specs.Shown.{IsOn, IsFormatted, block_count}
 use Rattle.model_cache.specs.Values.{Values, Contents, Has, MayHave}
 use Rattle.model_cache.specs.Shown.{CacheShown}
-use Rattle.model_cache.specs.Causes.{ReadsParts, CacheReadBy}
-use Rattle.ram_requests.proofs.ReadBytes.{done}
+use Rattle.model_cache.specs.Causes.{CacheReadBy}
 
 -- What a read of the part of a request in one block gives of a disc with these values, and what is left.
 abbrev pub PartContents : (Contents → Type 0) → Values → (lba n block : ℕ) → (into into' : List ℕ) → ReadOut → Type 0
@@ -18,18 +16,6 @@ PartContents after v lba n block into into' (reads.Unread named home) = after (H
 PartContents after v lba n block into into' reads.Cut = after (MayHave (v ∷ []))
 PartContents after v lba n block into into' reads.Fault = after (MayHave (v ∷ []))
 PartContents after v lba n block into into' _ = ⊥
-
--- The first k blocks of a request were read, and their bytes stand at the front.
-pub record ReadSoFar (start now : CacheShown) (lba n k : ℕ) (into : List ℕ) (before after : Contents → Type 0) : Type 0 where
-  pub parts : ReadsParts start now lba n k
-  pub same_pending : now.pending ≡ start.pending
-  pub on : IsOn now.drive
-  pub formatted : IsFormatted now.drive
-  pub same_shape : now.drive.shape ≡ start.drive.shape
-  pub same_count : block_count now.drive ≡ block_count start.drive
-  pub long : length into ≡ 2048 * n
-  pub gives : (v : Values) → before (Has v)
-      → after (Has v) × (take (2048 * done lba n k) into ≡ sectors_of v.disc lba (done lba n k))
 
 -- A read with the power on, once the pending blocks that the disc has not are dropped.
 abbrev pub CacheReadOn : CacheShown → CacheShown → (lba n : ℕ) → ReadOut → Type 0

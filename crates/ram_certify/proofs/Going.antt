@@ -21,8 +21,8 @@ use Rattle.ram_medium.proofs.Parts.{continues_then, stops_later, stops_within}
 use Rattle.ram_copies.specs.Puts.{IsBlockPut, IsBlockLost, StopsPutting}
 use Rattle.ram_copies.proofs.Lifting.{quiet_counts, stopped_counts}
 use Rattle.ram_certify.specs.Certifying.{HasCertified, StopsCertifying}
-use Rattle.ram_certify.specs.Blocks.{IsReached, IsNextKept, IsFoundBy}
-use Rattle.ram_certify.proofs.CertifiedUpTo.{HasCertifiedUpTo}
+use Rattle.ram_certify.specs.Blocks.{IsNextKept}
+use Rattle.ram_certify.proofs.CertifiedUpTo.{IsReached, IsFoundBy, HasCertifiedUpTo}
 use Rattle.ram_certify.proofs.Passing.{is_certified, passed_by, passed_on, kept_is_not_certified, reached_here, reached_more, reached_before, reached_below, reached_all, not_reached, rest_is_room, passed_all}
 
 -- one more, where there is room

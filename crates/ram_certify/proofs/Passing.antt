@@ -14,7 +14,8 @@ use Rattle.model_lists.specs.declared.dds.PdlKind.TheVariants as kinds
 use Rattle.model_lists.specs.Values.{pdl_blocks}
 use Rattle.model_pools.proofs.Listed.{same_index}
 use Rattle.model_formats.specs.Defects.{AreKept, IsCertified}
-use Rattle.ram_certify.specs.Blocks.{IsReached, ArePassed, IsNextKept}
+use Rattle.ram_certify.specs.Blocks.{IsNextKept}
+use Rattle.ram_certify.proofs.CertifiedUpTo.{IsReached, ArePassed}
 
 -- in a rising list the place of a lower number is a lower one
 lower_place : (xs : List ℕ) → IsStrictlyIncreasing xs → (i j : ℕ) → i < length xs → slice_index xs i < slice_index xs j → i < j

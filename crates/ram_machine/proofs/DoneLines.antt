@@ -17,7 +17,8 @@ use Rattle.model_cache.specs.Values.{Values, Contents, Has, MayHave, candidates_
 use Rattle.model_cache.specs.Shown.{CacheShown, CacheStandsFor, dropped, goes_into_cache}
 use Rattle.model_cache.specs.Causes.{CacheReadBy, CacheReadCause, CachedCause, ThroughCause}
 use Rattle.model_cache.specs.Steps.{ReadContents, CachedContents, ThroughContents}
-use Rattle.model_cache.specs.Falling.{AreAmong, value_written}
+use Rattle.model_cache.specs.Falling.{value_written}
+use Rattle.model_cache.proofs.Among.{AreAmong}
 use Rattle.model_cache.proofs.Members.{Contains-none, Contains-cases}
 use Rattle.model_cache.proofs.Falls.{only, through_settles}
 use Rattle.model_sense.specs.declared.sense.Sense.{Sense}

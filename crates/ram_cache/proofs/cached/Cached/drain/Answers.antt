@@ -3,7 +3,8 @@ use Rattle.model_sectors.specs.Discs.{Off}
 use Rattle.model_drive.specs.declared.WriteOut.{WriteOut}
 use Rattle.model_drive.specs.declared.WriteOut.TheVariants as writes
 use Rattle.ram_cache.specs.Caches.{shown_by, stands_by}
-use Rattle.ram_cache.specs.Flushes.{DrainedSoFar, DrainsDue, FlushContents}
+use Rattle.ram_cache.specs.Flushes.{DrainsDue, FlushContents}
+use Rattle.ram_cache.proofs.DrainedSoFar.{DrainedSoFar}
 use Rattle.ram_cache.proofs.Due.{drained_none, some_first, drained_enough, drained_all, turn_left, turn_refused, turn_stopped, drain_shows}
 use Rattle.ram_cache.proofs.cached.Cached.drain.Goals.{in-Good, in_default-flush}
 use Rattle.ram_cache.proofs.cached.Cached.drain.Goals as goal

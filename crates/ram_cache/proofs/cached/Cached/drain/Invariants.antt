@@ -1,5 +1,5 @@
 use Rattle.ram_cache.specs.Caches.{shown_by, stands_by}
-use Rattle.ram_cache.specs.Flushes.{DrainedSoFar}
+use Rattle.ram_cache.proofs.DrainedSoFar.{DrainedSoFar}
 use Rattle.ram_cache.proofs.cached.Cached.drain.Given as goal
 
 abbrev pub invariant-loop-turn : goal.invariant-loop-turn

@@ -1,5 +1,5 @@
 use Rattle.ram_cache.specs.Caches.{shown_by, stands_by}
-use Rattle.ram_cache.specs.Reading.{ReadSoFar}
+use Rattle.ram_cache.proofs.ReadSoFar.{ReadSoFar}
 use Rattle.ram_cache.proofs.cached.Cached.read_parts.Given as goal
 
 abbrev pub invariant-loop-k : goal.invariant-loop-k
