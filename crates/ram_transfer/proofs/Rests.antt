@@ -78,13 +78,13 @@ module _ {M : Type 0} (world : M → World) (block_count : M → ℕ) (reaches :
       | inl from ↦
           subst (λ (m : M). Continues world reaches old m (uses_of_rest b lba n k)) (sym from.unused)
           (subst (Continues world reaches old old) (sym (rest_at_hand (is_partly lba n i) (is_at_hand b (block_with lba) k) (hand_is ∙ bytes_at_some i held rest from.was_there))) (continues_none world block_count reaches laws old on))
-      | inr home ↦ subst (Continues world reaches old new) (sym (one_use got.partly home.not_buffered)) home.continues
+      | inr from_home ↦ subst (Continues world reaches old new) (sym (one_use got.partly from_home.not_buffered)) from_home.continues
     ]
 
     -- no cell changed
     pub rest_cells : HasRest world reaches old held lba n i home new rest held' → (world new).cells ≡ (world old).cells
     rest_cells (inl none) = ap (λ (m : M). (world m).cells) none.unused
-    rest_cells (inr got) = elim got.fetched.came [ inl from ↦ ap (λ (m : M). (world m).cells) from.unused | inr home ↦ home.same_cells ]
+    rest_cells (inr got) = elim got.fetched.came [ inl from ↦ ap (λ (m : M). (world m).cells) from.unused | inr from_home ↦ from_home.same_cells ]
 
     -- the buffered blocks, where the block is written then
     pub rest_put : HasRest world reaches old held lba n i home new rest held' → touched_one (numbers_in held') i ≡ touched_one (numbers_in held) i
@@ -107,8 +107,8 @@ module _ {M : Type 0} (world : M → World) (block_count : M → ℕ) (reaches :
       fetched_is : IsFetched world reaches old new held i home rest held' → rest ≡ block_of disc i
       fetched_is fetched = elim fetched.came [
         | inl from ↦ holds_found disc i held rest holds from.was_there
-        | inr home ↦
-            let here : cell_at (world old).cells home ≡ Good rest = ap (λ (l : List Cell). cell_at l home) (sym home.same_cells) ∙ where_known (world old).known (cell_at (world new).cells home ≡ Good rest) known home.gives in
+        | inr from_home ↦
+            let here : cell_at (world old).cells home ≡ Good rest = ap (λ (l : List Cell). cell_at l home) (sym from_home.same_cells) ∙ where_known (world old).known (cell_at (world new).cells home ≡ Good rest) known from_home.gives in
             subst (λ (c : Cell). Agrees c (block_of disc i)) here (fits.agrees i within)
       ]
 
