@@ -21,6 +21,7 @@ PRESS = ("press 1 1 3", "pressed")
 POWER = ("power", "ready 320")
 NOT_READY = ("power", "not formatted")
 ATTENTION = ("cdb 000000000000", "check 6/29/00")
+EJECT = ("cdb 1b0000000200", "good")
 FAIL = ("fail 12", "failed")
 UNREAD = ("cdb 28000000000500000100", "check 3/11/00 info 5")
 NEW = [PRESS, NOT_READY, FORMAT]
@@ -96,7 +97,10 @@ CASES = [
     Case("a synchronisation that was refused keeps nothing", True,
          [*NEW, ON, write("aa"), FAIL, answered(SYNC, "check 3/32/00 info 5"), POWER, read("00")]),
     Case("with the cache off again a write is kept", False, [*NEW, ON, OFF, write("aa"), POWER, read("00")]),
-    Case("what was pending then is not", True, [*NEW, ON, write("aa"), OFF, POWER, read("00")]),
+    Case("what was pending then is kept too", False, [*NEW, ON, write("aa"), OFF, POWER, read("00")]),
+    Case("so is what was pending at an ejection", False, [*NEW, ON, write("aa"), EJECT, POWER, read("00")]),
+    Case("where that is refused it may be lost", True,
+         [*NEW, ON, write("aa"), FAIL, answered(EJECT, "check 3/32/00 info 5"), POWER, read("00")]),
     Case("a power line turns the cache off", False, [*NEW, ON, POWER, write("aa"), POWER, read("00")]),
     Case("a write that was cut is old", True, [*NEW, write("aa"), write("bb", "cut"), POWER, read("aa")]),
     Case("or new", True, [*NEW, write("aa"), write("bb", "cut"), POWER, read("bb")]),
