@@ -34,16 +34,16 @@ use Rattle.model_cache.proofs.FlushedHomes.{FlushesAll, all_flushed, first_alone
 use Rattle.model_cache.proofs.Refusals.{refuses}
 
 -- what work that went to its end leaves of the counts and the dead cells
-record WentOn (a b : Shown) : Type 0 where
-  on : IsOn b
-  cuts : b.medium.world.cuts ≡ a.medium.world.cuts
-  faults : b.medium.world.faults ≡ a.medium.world.faults
-  stays_dead : (block : ℕ) → cell_at (cells_in a) block ≡ Dead → cell_at (cells_in b) block ≡ Dead
+pub record WentOn (a b : Shown) : Type 0 where
+  pub on : IsOn b
+  pub cuts : b.medium.world.cuts ≡ a.medium.world.cuts
+  pub faults : b.medium.world.faults ≡ a.medium.world.faults
+  pub stays_dead : (block : ℕ) → cell_at (cells_in a) block ≡ Dead → cell_at (cells_in b) block ≡ Dead
 
 uncut : (a b : Machine) (k : ℕ) → Reach a b k → IsTrue b.world.power → b.world.cuts ≡ a.world.cuts
 uncut a b k reach on = elim reach.ends [ inl none ↦ none.0.no_cut | inr came ↦ absurd (came.0.turns_off on) ]
 
-ended : (a b : Shown) (uses : ℕ) → EndsBy a b uses → WentOn a b
+pub ended : (a b : Shown) (uses : ℕ) → EndsBy a b uses → WentOn a b
 ended a b uses p = record {
   on = p.is_on;
   cuts = uncut a.medium b.medium uses p.reach p.is_on;
@@ -51,25 +51,25 @@ ended a b uses p = record {
   stays_dead = p.reach.lasts.stays_dead;
 }
 
-none_before : (a b c : Shown) → WentOn b c → NoneCounted a c → NoneCounted a b
+pub none_before : (a b c : Shown) → WentOn b c → NoneCounted a c → NoneCounted a b
 none_before a b c went none = record {
   cuts = λ rose. none.cuts (subst (Rose a.medium.world.cuts) (sym went.cuts) rose);
   faults = λ rose. none.faults (subst (Rose a.medium.world.faults) (sym went.faults) rose);
 }
 
-none_after : (a b c : Shown) → WentOn a b → NoneCounted a c → NoneCounted b c
+pub none_after : (a b c : Shown) → WentOn a b → NoneCounted a c → NoneCounted b c
 none_after a b c went none = record {
   cuts = λ rose. none.cuts (subst (λ (count : ℕ). Rose count c.medium.world.cuts) went.cuts rose);
   faults = λ rose. none.faults (subst (λ (count : ℕ). Rose count c.medium.world.faults) went.faults rose);
 }
 
 -- what a chain of flushes leaves
-record Flushed (a b : Shown) : Type 0 where
-  formatted : IsFormatted b
-  sound : IsSound b
-  known : IsKnown b
-  count : block_count b ≡ block_count a
-  went : WentOn a b
+pub record Flushed (a b : Shown) : Type 0 where
+  pub formatted : IsFormatted b
+  pub sound : IsSound b
+  pub known : IsKnown b
+  pub count : block_count b ≡ block_count a
+  pub went : WentOn a b
 
 one_flush : (a b : CacheShown) (i : ℕ) → Flushes a b i → IsSound a.drive → IsKnown a.drive → Flushed a.drive b.drive
 one_flush a b i flush sound known =
@@ -117,7 +117,7 @@ joined a b c one rest = record {
 refused_leaves : (a b : CacheShown) (i : ℕ) (out : WriteOut) → Refuses a b i out → IsSound a.drive → IsKnown a.drive → Flushed a.drive b.drive
 refused_leaves a b i out is sound known = let r = refuses a b i out is sound in one_refused a b i out is.refused is.back r.counts r.as_known known
 
-tries_leave : (due : List ℕ) (enough short : ℕ) (a b : CacheShown) (first : Option WriteOut) → IsOn a.drive → IsFormatted a.drive → IsSound a.drive → IsKnown a.drive → Tries a due enough b short first
+pub tries_leave : (due : List ℕ) (enough short : ℕ) (a b : CacheShown) (first : Option WriteOut) → IsOn a.drive → IsFormatted a.drive → IsSound a.drive → IsKnown a.drive → Tries a due enough b short first
     → Flushed a.drive b.drive
 tries_leave due zero short a b first on formatted sound known p = subst (λ (s : CacheShown). Flushed a.drive s.drive) (sym p.0) (record {
   formatted = formatted;
@@ -249,7 +249,7 @@ held_of (held ∷ pending) i has = elim (Contains-cases held.0 (numbers_in pendi
   | inr more ↦ let found = held_of pending i more in (found.0, Contains-later {X = ℕ × List ℕ} held pending (i, found.0) found.1)
 ]
 
-due_inside : (shown : CacheShown) (i : ℕ) → Contains (pending_in (dropped shown)) i → i < block_count shown.drive
+pub due_inside : (shown : CacheShown) (i : ℕ) → Contains (pending_in (dropped shown)) i → i < block_count shown.drive
 due_inside shown i has =
     let found = held_of (pending_below (block_count shown.drive) shown.pending) i has in
     ltb-true i (block_count shown.drive) (Contains-passed {X = ℕ × List ℕ} (λ (held : ℕ × List ℕ). nat_lt held.0 (block_count shown.drive)) shown.pending (i, found.0) found.1).0

@@ -16,3 +16,4 @@ pub mod Spareless
 pub mod Behind
 pub mod Settled
 pub mod Completing
+pub mod Held

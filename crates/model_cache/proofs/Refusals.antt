@@ -25,10 +25,6 @@ use Rattle.model_cache.specs.Drains.{IsRefusal, Refuses, Tries}
 use Rattle.model_cache.proofs.Members.{Contains-none, Contains-cases}
 use Rattle.model_cache.proofs.FlushedHomes.{after_other, home_is, count_is, one_covered, its_block, flushed_good, flush_leaves, flush_counts, flush_known, flush_inside}
 
--- the home of a logical block has whole bytes, or is dead
-abbrev pub IsOutOrDead : CacheShown → ℕ → Type 0
-IsOutOrDead shown i = IsGood (home_cell shown.drive i) ⊎ (home_cell shown.drive i ≡ Dead)
-
 -- ---- a write of a whole block that was refused
 
 module _ (old new : Shown) (i : ℕ) (same_shape : new.shape ≡ old.shape) (sound : IsSound old) (lists : Lists) (course : List Placing) (reached : Lists) (uses : ℕ) (buffered_now : List ℕ)
@@ -116,52 +112,6 @@ refused old new i same sound writes.Fault no_refusal cause = absurd no_refusal
 
 pub refuses : (old new : CacheShown) (i : ℕ) (out : WriteOut) → Refuses old new i out → IsSound old.drive → Refused old.drive new.drive i
 refuses old new i out is sound = refused old.drive new.drive i is.back.leaves.same_shape sound out is.refused is.back.wrote
-
--- ---- a block is out, or dead, and stays so
-
-kept : (a b : CacheShown) (k : ℕ) → home_cell b.drive k ≡ home_cell a.drive k → IsOutOrDead a k → IsOutOrDead b k
-kept a b k same (inl good) = inl (subst IsGood (sym same) good)
-kept a b k same (inr dead) = inr (same ∙ dead)
-
-pub stays_out : (due : List ℕ) (enough short : ℕ) (old new : CacheShown) (first : Option WriteOut) → IsSound old.drive → IsKnown old.drive
-    → Tries old due enough new short first → (j : ℕ) → j < block_count old.drive → IsOutOrDead old j → IsOutOrDead new j
-stays_out due zero short old new first sound known tries j inside out = subst (λ (s : CacheShown). IsOutOrDead s j) (sym tries.0) out
-stays_out [] (suc enough) short old new first sound known tries j inside out = subst (λ (s : CacheShown). IsOutOrDead s j) (sym tries.0) out
-stays_out (i ∷ due) (suc enough) short old new first sound known (inl (mid, flush, later)) j inside out =
-    stays_out due enough short mid new first flush.back.leaves.sound (flush_known old mid i flush sound known) later j
-    (subst (λ (c : ℕ). j < c) (sym (flush_counts old mid i flush sound)) inside) (elim (cases_eq j i) [
-      | inl same ↦ inl (subst (λ (b : ℕ). IsGood (home_cell mid.drive b)) (sym same) (flushed_good old mid i flush sound known))
-      | inr ne ↦ kept old mid j (flush_leaves old mid i flush sound j inside ne) out
-    ])
-stays_out (i ∷ due) (suc enough) short old new first sound known (inr (mid, answer, told, is, later, first_is)) j inside out =
-    let r = refuses old mid i answer is sound in
-    stays_out due (suc enough) short mid new told is.back.leaves.sound (r.as_known ∙ known) later j
-    (subst (λ (c : ℕ). j < c) (sym r.counts) inside) (elim (cases_eq j i) [
-      | inl same ↦ inr (subst (λ (b : ℕ). home_cell mid.drive b ≡ Dead) (sym same) r.dead)
-      | inr ne ↦ kept old mid j (r.leaves j inside ne) out
-    ])
-
-pub all_out : (due : List ℕ) (enough short : ℕ) (old new : CacheShown) (first : Option WriteOut) → length due ≤ enough → IsSound old.drive → IsKnown old.drive
-    → Tries old due enough new short first → (j : ℕ) → Contains due j → IsOutOrDead new j
-all_out [] zero short old new first all sound known tries j has = absurd (Contains-none j has)
-all_out [] (suc enough) short old new first all sound known tries j has = absurd (Contains-none j has)
-all_out (i ∷ due) zero short old new first all sound known tries j has = absurd (omega (arith, all))
-all_out (i ∷ due) (suc enough) short old new first all sound known (inl (mid, flush, later)) j has =
-    let known' = flush_known old mid i flush sound known in
-    elim (Contains-cases i due j has) [
-      | inl same ↦ stays_out due enough short mid new first flush.back.leaves.sound known' later j
-          (subst (λ (c : ℕ). j < c) (sym (flush_counts old mid i flush sound)) (subst (λ (b : ℕ). b < block_count old.drive) same (flush_inside old mid i flush sound)))
-          (inl (subst (λ (b : ℕ). IsGood (home_cell mid.drive b)) same (flushed_good old mid i flush sound known)))
-      | inr more ↦ all_out due enough short mid new first (omega (arith, all)) flush.back.leaves.sound known' later j more
-    ]
-all_out (i ∷ due) (suc enough) short old new first all sound known (inr (mid, answer, told, is, later, first_is)) j has =
-    let r = refuses old mid i answer is sound in
-    elim (Contains-cases i due j has) [
-      | inl same ↦ stays_out due (suc enough) short mid new told is.back.leaves.sound (r.as_known ∙ known) later j
-          (subst (λ (c : ℕ). j < c) (sym r.counts) (subst (λ (b : ℕ). b < block_count old.drive) same r.in_range))
-          (inr (subst (λ (b : ℕ). home_cell mid.drive b ≡ Dead) same r.dead))
-      | inr more ↦ all_out due (suc enough) short mid new told (omega (arith, all)) is.back.leaves.sound (r.as_known ∙ known) later j more
-    ]
 
 -- ---- the first refusal
 

@@ -29,7 +29,7 @@ reached_free shape lists first valid (placing ∷ earlier) inside can j b has =
     (placed_free shape (lists_reached shape lists first earlier) (first + length earlier) placing (after_valid shape lists first valid earlier (omega (arith, inside)) can.1) (omega (arith, total, inside)) can.0 j b has)
 
 -- no spare can be used for a logical block
-abbrev HasNoSpare : Shown → ℕ → Type 0
+abbrev pub HasNoSpare : Shown → ℕ → Type 0
 HasNoSpare shown i = (spare : ℕ) → ¬ IsUsable shown i spare
 
 module _ (old new : Shown) (i : ℕ) (same_shape : new.shape ≡ old.shape) (sound : IsSound old) (lists : Lists) (course : List Placing) (more : ℕ) (reached : Lists) (uses : ℕ) (buffered_now : List ℕ)
@@ -51,7 +51,7 @@ module _ (old new : Shown) (i : ℕ) (same_shape : new.shape ≡ old.shape) (sou
   none_now : (j : ℕ) → HasNoSpare old j → HasNoSpare new j
   none_now j none spare usable = none spare (record { free = free_now j spare usable.free; lives = λ dead. usable.lives (ends.ends.reach.lasts.stays_dead spare dead) })
 
-back_spareless : (old new : CacheShown) (i : ℕ) (out : WriteOut) → WritesBack old new i out → (out ≡ writes.Good) ⊎ IsRefusal out → IsSound old.drive → (j : ℕ) → HasNoSpare old.drive j → HasNoSpare new.drive j
+pub back_spareless : (old new : CacheShown) (i : ℕ) (out : WriteOut) → WritesBack old new i out → (out ≡ writes.Good) ⊎ IsRefusal out → IsSound old.drive → (j : ℕ) → HasNoSpare old.drive j → HasNoSpare new.drive j
 back_spareless old new i writes.Good back why sound j none =
     none_now old.drive new.drive i back.leaves.same_shape sound back.wrote.lists back.wrote.course 0 back.wrote.reached _ _ back.wrote.ends (let one = one_covered i in let all = back.wrote.all in omega (arith, one, all)) j none
 back_spareless old new i (writes.NoSpare named) back why sound j none =

@@ -15,7 +15,8 @@ use Rattle.model_cache.proofs.Members.{Contains-none, Contains-first, Contains-l
 use Rattle.model_cache.proofs.ReplacedBlocks.{as_long_as}
 use Rattle.ram_cache.proofs.Entering.{long_by}
 use Rattle.ram_cache.proofs.Numbers.{has_number, number_held}
-use Rattle.ram_cache.proofs.Fresh.{some_at, fresh_below, fresh_has}
+use Rattle.model_cache.proofs.Held.{some_at}
+use Rattle.ram_cache.proofs.Fresh.{fresh_below, fresh_has}
 use Rattle.ram_cache.proofs.Written.{among_parts, among_from, written_block, other_written, lies_shown}
 
 -- ---- members of a mapped list

@@ -17,7 +17,8 @@ use Rattle.model_cache.specs.Causes.{ReadsRest, fresh_blocks}
 use Rattle.model_cache.proofs.Members.{Contains-none, Contains-first, Contains-later, Contains-cases}
 use Rattle.ram_cache.specs.Staging.{IsNextStaged, IsStaged, LacksRestOf, StagedContents, StoppedContents, StagedSoFar, EndsComing, HasRoomForBlocks}
 use Rattle.ram_cache.proofs.Numbers.{has_number, merged_long}
-use Rattle.ram_cache.proofs.Fresh.{none_at, fresh_some, fresh_none, fresh_rise, fresh_below}
+use Rattle.model_cache.proofs.Held.{none_at}
+use Rattle.ram_cache.proofs.Fresh.{fresh_some, fresh_none, fresh_rise, fresh_below}
 
 -- what the reading of a rest keeps
 record KeepsAll (old new : CacheShown) : Type 0 where
