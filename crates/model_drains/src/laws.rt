@@ -1,20 +1,23 @@
 //! Laws of drains: functions with an empty body, of which the contract is the law.
 
-ghost use Rattle.std.specs.Prelude.{◌≡◌, ◌≢◌, ℕ, ◌+◌, ◌<◌, ◌⊎◌, false, Option, List};
-ghost use Rattle.std.specs.List.{Contains};
-ghost use Rattle.model_medium.specs.Cells.{Dead, IsGood};
+ghost use Rattle.std.specs.Prelude.{◌≡◌, ◌≢◌, ℕ, ◌+◌, ◌<◌, ◌≤◌, Bool, true, false, Option, List, length};
+ghost use Rattle.std.specs.List.{Contains, filter};
 ghost use Rattle.model_sectors.specs.Requests.{block_with, blocks_covered, is_partly};
+ghost use Rattle.model_sectors.specs.declared.ReadOut.{ReadOut};
+ghost use Rattle.model_sectors.specs.declared.ReadOut.TheVariants as reads;
 ghost use Rattle.model_drive.specs.declared.WriteOut.{WriteOut};
 ghost use Rattle.model_drive.specs.declared.WriteOut.TheVariants as writes;
-ghost use Rattle.model_drive.specs.Shown.{IsOn, IsFormatted, IsKnown, home_cell};
+ghost use Rattle.model_drive.specs.Shown.{IsOn, IsFormatted, IsKnown};
 ghost use Rattle.model_drive.specs.Sound.{IsSound};
-ghost use Rattle.model_drive.specs.Parts.{IsInRange};
+ghost use Rattle.model_drive.specs.Parts.{IsInRange, NoneCounted};
 ghost use Rattle.model_costs.specs.Costs.{Lives};
 ghost use Rattle.model_cache.specs.declared.SyncOut.{SyncOut};
 ghost use Rattle.model_cache.specs.declared.SyncOut.TheVariants as syncs;
-ghost use Rattle.model_cache.specs.Shown.{CacheShown, dropped, pending_in};
+ghost use Rattle.model_cache.specs.Shown.{CacheShown, dropped, pending_in, pending_covered};
 ghost use Rattle.model_cache.specs.Drains.{Tries, StopsTrying};
-ghost use Rattle.model_cache.specs.Causes.{leave_first, CachedCause, SyncCause};
+ghost use Rattle.model_cache.specs.Causes.{leave_first, CacheReadCause, CachedCause, SyncCause};
+ghost use Rattle.model_drains.specs.Leaving.{CannotLeave, IsOutOrCannotLeave, CanReadAll, CanReadRests};
+ghost use Rattle.model_drains.specs.Ticks.{Ticks};
 
 /// A drain loses no block that can be read: a block lives through it, but for the one in which it is stopped.
 pub fn a_drain_leaves_blocks_living()
@@ -26,12 +29,42 @@ pub fn a_drain_leaves_blocks_living()
         → StopsTrying old new due enough out → ¬ Contains due i → Lives old.drive i → Lives new.drive i }
 {}
 
-/// After a synchronisation that was not stopped each block that was pending has whole bytes in its home, or its home is dead.
-pub fn a_synchronisation_tries_each_block()
-    ensures { (old new : CacheShown) (out : SyncOut) (i : ℕ) → IsSound old.drive → IsKnown old.drive
+/// Each block that was tried is out, or cannot leave: after a drain of all that are due, after a synchronisation that was not stopped,
+/// and after as many ticks as blocks are pending.
+pub fn what_was_tried_is_out_or_cannot_leave()
+    ensures drained { (due : List ℕ) (short : ℕ) (old new : CacheShown) (first : Option WriteOut) (i : ℕ)
+        → IsSound old.drive → IsKnown old.drive → Tries old due (length due) new short first
+        → Contains due i → IsOutOrCannotLeave new.drive i }
+    ensures synchronised { (old new : CacheShown) (out : SyncOut) (i : ℕ) → IsSound old.drive → IsKnown old.drive
         → IsOn old.drive → IsFormatted old.drive → Contains (pending_in (dropped old)) i
-        → out ≢ syncs.Cut → out ≢ syncs.Fault → SyncCause old new out
-        → IsGood (home_cell new.drive i) ⊎ (home_cell new.drive i ≡ Dead) }
+        → out ≢ syncs.Cut → out ≢ syncs.Fault → SyncCause old new out → IsOutOrCannotLeave new.drive i }
+    ensures ticked { (old new : CacheShown) (i : ℕ) → IsSound old.drive → IsKnown old.drive
+        → Ticks old (length (pending_in (dropped old))) new
+        → Contains (pending_in (dropped old)) i → IsOutOrCannotLeave new.drive i }
+{}
+
+/// What can leave the cache does, where neither a cut nor a fault comes: a synchronisation is good where each pending block can leave
+/// it, and a write into the cache where as many can as have to, and the rests can be read.
+pub fn what_can_leave_the_cache_does()
+    ensures synchronised { (old new : CacheShown) (out : SyncOut) → IsSound old.drive → IsKnown old.drive
+        → IsOn old.drive → IsFormatted old.drive → NoneCounted old.drive new.drive
+        → ((i : ℕ) → Contains (pending_in (dropped old)) i → ¬ CannotLeave new.drive i)
+        → SyncCause old new out → out ≡ syncs.Good }
+    ensures written { (old new : CacheShown) (lba n : ℕ) (bytes : List ℕ) (out : WriteOut) (can : ℕ → Bool)
+        → IsSound old.drive → IsKnown old.drive → IsInRange old.drive lba n → NoneCounted old.drive new.drive
+        → ((i : ℕ) → Contains (pending_covered false (dropped old) lba n) i → can i ≡ true
+        → ¬ CannotLeave new.drive i)
+        → leave_first (dropped old) lba n ≤ length (filter can (pending_covered false (dropped old) lba n))
+        → CanReadRests (dropped old) new.drive lba n
+        → CachedCause old new lba n bytes out → out ≡ writes.Good }
+{}
+
+/// A read is good where each block that it covers is pending, or has whole bytes in its home at the end, and neither a cut nor a fault
+/// comes.
+pub fn what_is_pending_or_whole_is_read()
+    ensures { (old new : CacheShown) (lba n : ℕ) (out : ReadOut) → IsInRange old.drive lba n
+        → NoneCounted old.drive new.drive → CanReadAll (dropped old) new.drive lba n
+        → CacheReadCause old new lba n out → out ≡ reads.Good }
 {}
 
 /// A write of whole blocks into the cache is good where none has to leave it first, and takes no use of the medium.
