@@ -5,3 +5,4 @@ mod FormattedLines
 mod LivingRuns
 mod SafeBlocks
 mod DrainedBlocks
+mod IdleCache

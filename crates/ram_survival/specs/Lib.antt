@@ -1,2 +1,3 @@
 pub mod Survival
 pub mod Living
+pub mod Idle

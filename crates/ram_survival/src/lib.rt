@@ -16,4 +16,5 @@
 #![tactic(auto)]
 
 pub mod blocks;
+pub mod caches;
 pub mod discs;
