@@ -22,7 +22,7 @@ use Rattle.ram_cache.specs.Caches.{cache_of}
 use Rattle.ram_cache.specs.Flushes.{IsReady, CanFlush, EnterRule}
 use Rattle.ram_cache.specs.Reading.{CacheReadOn}
 use Rattle.ram_cache.specs.declared.flushing.Entered.TheVariants as entered
-use Rattle.ram_cache.proofs.Places.{all_kept_by}
+use Rattle.ram_cache.proofs.Indices.{all_kept_by}
 use Rattle.ram_cache.proofs.Entering.{none_count, long_by, empty}
 
 -- ---- nothing is pending

@@ -23,7 +23,7 @@ use Rattle.model_cache.proofs.Refusals.{tells_first}
 use Rattle.ram_cache.specs.Rooms.{pending_at, due_in, FirstOf}
 use Rattle.ram_cache.specs.Flushes.{CanFlush, FlushesAt, FlushContents, DrainedDue, DrainsDue, due_of, left_at, first_told, drain_out}
 use Rattle.ram_cache.proofs.DrainedSoFar.{DrainedSoFar}
-use Rattle.ram_cache.proofs.Places.{Contains-held, but_removed, behind_removed, first_due, none_due, inside_at}
+use Rattle.ram_cache.proofs.Indices.{Contains-held, but_removed, behind_removed, first_due, none_due, inside_at}
 use Rattle.ram_cache.proofs.OneFlush.{not_partly}
 
 -- ---- a write keeps the number of blocks
@@ -218,7 +218,7 @@ module _ (start : CacheShown) (among : Bool) (first count : ℕ) (before : Conte
     some_left : 0 < length far.rest
     some_left = let many = far.many in let long : length (due_of among first count start) ≡ length (far.done ++ far.rest) = ap length far.due_is in omega (arith, fewer, many, long, length-append far.done far.rest)
 
-    -- the first that is left is the one at the place, and these are left then
+    -- the first that is left is the one at the index, and these are left then
     left : Split far.rest
     left = split far.rest some_left
 

@@ -10,7 +10,7 @@ pub mod HostCalls
 pub mod IntoCache
 pub mod Numbers
 pub mod OneFlush
-pub mod Places
+pub mod Indices
 pub mod PlainWrites
 pub mod ReadParts
 pub mod Rests

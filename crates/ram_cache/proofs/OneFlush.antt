@@ -22,7 +22,7 @@ use Rattle.model_cache.specs.Falling.{LiesIn}
 use Rattle.model_cache.specs.Shown.{AreApart, pending_but}
 use Rattle.ram_cache.specs.Rooms.{pending_at}
 use Rattle.ram_cache.specs.Flushes.{FlushContents, left_at}
-use Rattle.ram_cache.proofs.Places.{Contains-held, but_removed, behind_removed}
+use Rattle.ram_cache.proofs.Indices.{Contains-held, but_removed, behind_removed}
 use Rattle.model_cache.proofs.Behind.{under_behind}
 use Rattle.model_cache.proofs.Members.{Contains-kept, Contains-passed}
 use Rattle.model_cache.proofs.ReplacedBlocks.{missed_block, as_long_as, as_sectors}

@@ -27,7 +27,7 @@ use Rattle.ram_requests.proofs.ReadBytes.{done, prefix_none, prefix_more, prefix
 use Rattle.ram_cache.specs.Rooms.{pending_at, FirstOf}
 use Rattle.ram_cache.specs.Reading.{PartContents}
 use Rattle.ram_cache.proofs.ReadSoFar.{ReadSoFar}
-use Rattle.ram_cache.proofs.Places.{Contains-held}
+use Rattle.ram_cache.proofs.Indices.{Contains-held}
 use Rattle.ram_cache.proofs.Entering.{long_by}
 
 -- ---- one part, from the disc
@@ -61,19 +61,19 @@ module _ (old new : Shown) (before after : Standing → Type 0) (p : List (ℕ �
     fills d stands under is =
         let some = some_part in
         let inside = range.inside in
-        let place : ℕ = start_in lba i - 16 * i in
+        let offset : ℕ = start_in lba i - 16 * i in
         let count : ℕ = end_in lba n i - start_in lba i in
-        let there : start ≡ 16 * i + place = omega (arith, start_is) in
+        let there : start ≡ 16 * i + offset = omega (arith, start_is) in
         let many : end - start ≡ count = omega (arith, start_is, end_is) in
         let long = length_sectors d (block_count old) start (end - start) (omega (arith, some, inside, start_is, end_is))
         (long_by old.shape (cells_in old) old.lists old.buffer d (stands.2)) in
         filled_part lba n i at (2048 * (end - start)) (block_of v.disc i) written into (at_is ∙ ap (λ (s : ℕ). 2048 * (s - lba)) start_is) (ap (λ (m : ℕ). 2048 * m) many)
         (ap length is ∙ long)
         (is ∙ ap (λ (s : ℕ). sectors_of d s (end - start)) there
-        ∙ ap (sectors_of d (16 * i + place)) many
-        ∙ sectors_in_block d i place count (omega (arith, some))
-        ∙ ap (λ (m : ℕ). take m (drop (2048 * place) (block_of d i))) (ap (λ (m : ℕ). 2048 * m) (sym many))
-        ∙ ap (λ (l : List ℕ). take (2048 * (end - start)) (drop (2048 * place) l)) (sym (under.others i not_pending)))
+        ∙ ap (sectors_of d (16 * i + offset)) many
+        ∙ sectors_in_block d i offset count (omega (arith, some))
+        ∙ ap (λ (m : ℕ). take m (drop (2048 * offset) (block_of d i))) (ap (λ (m : ℕ). 2048 * m) (sym many))
+        ∙ ap (λ (l : List ℕ). take (2048 * (end - start)) (drop (2048 * offset) l)) (sym (under.others i not_pending)))
 
     kept : (left : List (ℕ × List ℕ)) → left ≡ p → (d : List ℕ) → after (On d) → IsUnder p d v → StandsCached after left (Has v)
     kept left same d so under = (d, so, subst (λ (l : List (ℕ × List ℕ)). IsUnder l d v) (sym same) under)

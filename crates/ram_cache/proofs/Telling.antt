@@ -18,7 +18,7 @@ use Rattle.model_cache.proofs.Settled.{under_settled}
 use Rattle.model_cache.proofs.Members.{Contains-none}
 use Rattle.ram_cache.specs.Rooms.{pending_at}
 use Rattle.ram_cache.specs.Flushes.{CanFlush, FlushesAt, FlushContents, DrainsDue, due_of, left_at, tick_out, sync_out}
-use Rattle.ram_cache.proofs.Places.{but_removed, inside_at}
+use Rattle.ram_cache.proofs.Indices.{but_removed, inside_at}
 use Rattle.ram_cache.proofs.OneFlush.{not_partly}
 use Rattle.ram_cache.proofs.Due.{back, refuses}
 

@@ -36,14 +36,14 @@ EnterRule old new entered.Off = ¬ IsOn old.drive × (new ≡ old)
 EnterRule old new entered.NotFormatted = IsOn old.drive × ¬ IsFormatted old.drive × (new ≡ dropped old) × (new.pending ≡ [])
 EnterRule old new (entered.Formatted sectors) = IsReady new sectors × (new ≡ dropped old)
 
--- what is pending after the write of the block at this place: a refused one stands behind the others
+-- what is pending after the write of the block at this index: a refused one stands behind the others
 abbrev pub left_at : WriteOut → ℕ → List (ℕ × List ℕ) → List (ℕ × List ℕ)
 left_at writes.Good k pending = remove pending k
 left_at writes.Cut k pending = []
 left_at writes.Fault k pending = []
 left_at _ k pending = remove pending k ++ pending_at pending k ∷ []
 
--- The pending block at this place was written to the disc, and it went so.
+-- The pending block at this index was written to the disc, and it went so.
 abbrev pub FlushesAt : CacheShown → CacheShown → ℕ → WriteOut → Type 0
 FlushesAt old new k out = (WriteCause old.drive new.drive (16 * (pending_at old.pending k).0) 16 out × LeavesSound old.drive new.drive)
     × (new.pending ≡ left_at out k old.pending) × (new.caches ≡ old.caches)

@@ -17,7 +17,7 @@ staged_of pending staged = take staged (drop pending.count pending.rooms.items)
 abbrev pub room_of : PendingBlocks → ℕ → List ℕ
 room_of pending staged = (slice_index_or pending.rooms.items (pending.count + staged) (0, [])).1
 
--- the one at this place
+-- the one at this index
 abbrev pub pending_at : List (ℕ × List ℕ) → ℕ → ℕ × List ℕ
 pending_at pending k = slice_index_or pending k (0, [])
 

@@ -130,11 +130,11 @@ impl<D: Disc> Cached<D> {
         }
     }
 
-    /// Writes the pending block at this place to the disc, which has k sectors and all pending blocks.
+    /// Writes the pending block at index `k` to the disc, which has `sectors` sectors and all pending blocks.
     ///
     /// # Clauses
     ///
-    /// - `rule` (`FlushesAt`), `step` (`FlushContents`): the pending block at a place is written to the disc, and is gone where
+    /// - `rule` (`FlushesAt`), `step` (`FlushContents`): the pending block at an index is written to the disc, and is gone where
     ///   that was good, or behind the others where it was refused; what is shown stays, and a stopped flush leaves two candidates of
     ///   the same values.
     fn flush(&mut self, k: usize, sectors: u32) -> WriteOut

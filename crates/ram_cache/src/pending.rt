@@ -86,7 +86,7 @@ impl PendingBlocks {
         self.count == 0
     }
 
-    /// The number of the one at this place.
+    /// Returns the number of the pending block at this index.
     pub fn number(&self, k: usize) -> u32
         requires { k < length (pending_of self.now) }
         ensures { result ≡ (pending_at (pending_of self.now) k).0 }
@@ -94,7 +94,7 @@ impl PendingBlocks {
         self.rooms[k].0
     }
 
-    /// The bytes of the one at this place.
+    /// Returns the bytes of the pending block at this index.
     pub fn block(&self, k: usize) -> &Block
         requires { k < length (pending_of self.now) }
         ensures { result.now ≡ (pending_at (pending_of self.now) k).1 }
@@ -102,12 +102,12 @@ impl PendingBlocks {
         &self.rooms[k].1
     }
 
-    /// The place of the oldest one that is one of `count` logical blocks from block `first` on, or of the oldest that is none of
-    /// them.
+    /// Returns the index of the oldest pending block that is one of `count` logical blocks from block `first` on, or of the oldest
+    /// that is none of them.
     ///
     /// # Answers
     ///
-    /// - `Some`: a pending block is among these numbers, or not among them, as is asked; the place of the oldest is told. Then:
+    /// - `Some`: a pending block is among these numbers, or not among them, as is asked; the index of the oldest is told. Then:
     ///   nothing changed. (`FirstOf`)
     /// - `None`: there is none. Then: nothing changed. (`FirstOf`)
     pub fn first_of(&self, among: bool, first: u32, count: u32) -> Option<usize>
@@ -134,7 +134,7 @@ impl PendingBlocks {
         some
     }
 
-    /// Drops the one at this place. Its room stays.
+    /// Drops the pending block at this index. Its room stays.
     pub fn remove(&mut self, k: usize)
         requires { k < length (pending_of self.old) }
         ensures { pending_of self.new ≡ remove (pending_of self.old) k }
@@ -143,7 +143,7 @@ impl PendingBlocks {
         self.count -= 1;
     }
 
-    /// Puts the one at this place behind the others.
+    /// Puts the pending block at this index behind the others.
     pub fn put_behind(&mut self, k: usize)
         requires { k < length (pending_of self.old) }
         ensures { pending_of self.new ≡ remove (pending_of self.old) k ++ pending_at (pending_of self.old) k ∷ [] }
@@ -218,7 +218,7 @@ impl PendingBlocks {
         part.merge(from, &mut room.1);
     }
 
-    /// Puts the part of a request over the pending block at this place, which is its block.
+    /// Puts the part of a request over the pending block at this index, which is its block.
     fn put_over(&mut self, k: usize, part: Part, from: &[u8])
         requires there { k < length (pending_of self.old) }
         requires whole { length from.now ≡ 2048 * part.request.n }
@@ -232,7 +232,7 @@ impl PendingBlocks {
         part.merge(from, &mut room.1);
     }
 
-    /// Puts what a request covers of the pending block at this place over it.
+    /// Puts what a request covers of the pending block at this index over it.
     fn cover(&mut self, k: usize, request: Request, from: &[u8])
         requires there { k < length (pending_of self.old) }
         requires whole { length from.now ≡ 2048 * request.n }
@@ -283,7 +283,7 @@ fn read_whole<D: Disc>(disc: &mut D, i: u32, room: &mut Block) -> ReadOut
     out
 }
 
-/// Puts the room at this place behind the others.
+/// Puts the room at this index behind the others.
 fn to_end(rooms: &mut [(u32, Block)], k: usize)
     requires { k < length rooms.old }
     ensures { rooms.new ≡ remove rooms.old k ++ slice_index_or rooms.old k (0, []) ∷ [] }
@@ -291,7 +291,7 @@ fn to_end(rooms: &mut [(u32, Block)], k: usize)
     rooms[k..].rotate_left(1);
 }
 
-/// Puts the room at this place behind the others of the first n.
+/// Puts the room at this index behind the others of the first `count`.
 fn to_end_of(rooms: &mut [(u32, Block)], count: usize, k: usize)
     requires there { k < count }
     requires long { count ≤ length rooms.old }

@@ -65,8 +65,8 @@ impl<D: Disc> Cached<D> {
     {
         let part = request.part(k);
         match self.pending.first_of(true, part.block, 1) {
-            Some(place) => {
-                part.copy_out(self.pending.block(place), into);
+            Some(index) => {
+                part.copy_out(self.pending.block(index), into);
                 ReadOut::Good
             }
             None => self.read_below(part, into),

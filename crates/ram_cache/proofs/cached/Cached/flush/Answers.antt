@@ -3,7 +3,7 @@ use Rattle.model_sectors.specs.Discs.{Standing}
 use Rattle.ram_cache.specs.Rooms.{pending_of}
 use Rattle.ram_cache.specs.Flushes.{left_at}
 use Rattle.ram_cache.proofs.OneFlush.{good_stays, flush_rule, flush_step, left_default, left_stopped}
-use Rattle.ram_cache.proofs.Places.{inside_at}
+use Rattle.ram_cache.proofs.Indices.{inside_at}
 use Rattle.ram_cache.proofs.cached.Cached.flush.Goals as goal
 
 pub returns-in-Good-clause-step : goal.returns-in-Good-clause-step

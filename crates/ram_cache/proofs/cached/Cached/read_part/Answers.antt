@@ -13,20 +13,20 @@ pub returns-in-Some-clause-cause : goal.returns-in-Some-clause-cause
 returns-in-Some-clause-cause g c =
     let p = pending_of c.args.self.now.pending in
     let i = block_with c.args.request.lba + c.args.k in
-    let first : FirstOf p true i 1 (Some c.in-Some.place) = subst (λ (j : ℕ). FirstOf p true j 1 (Some c.in-Some.place)) c.part-part.ensures.block c.in-Some.ensures in
+    let first : FirstOf p true i 1 (Some c.in-Some.index) = subst (λ (j : ℕ). FirstOf p true j 1 (Some c.in-Some.index)) c.part-part.ensures.block c.in-Some.ensures in
     subst (λ (o : Option (List ℕ)). ReadsPart (shown_by g.D.Sectors c.args.self.now) (shown_by g.D.Sectors c.args.self.now) c.args.request.lba c.args.request.n i o reads.Good)
-    (sym (found_at p i c.in-Some.place first)) (refl, refl)
+    (sym (found_at p i c.in-Some.index first)) (refl, refl)
 
 pub returns-in-Some-clause-step : goal.returns-in-Some-clause-step
 returns-in-Some-clause-step g c = λ v (d, so, under).
     let p = pending_of c.args.self.now.pending in
     let i = block_with c.args.request.lba + c.args.k in
-    let first : FirstOf p true i 1 (Some c.in-Some.place) = subst (λ (j : ℕ). FirstOf p true j 1 (Some c.in-Some.place)) c.part-part.ensures.block c.in-Some.ensures in (
+    let first : FirstOf p true i 1 (Some c.in-Some.index) = subst (λ (j : ℕ). FirstOf p true j 1 (Some c.in-Some.index)) c.part-part.ensures.block c.in-Some.ensures in (
       (d, so, under),
       c.copy_out.ensures
           ∙ ap (λ (r : Request). filled_by r.lba r.n c.part-part.result.block c.block.result.now c.args.into.now) c.part-part.ensures.request
           ∙ ap (λ (j : ℕ). filled_by c.args.request.lba c.args.request.n j c.block.result.now c.args.into.now) c.part-part.ensures.block
-          ∙ ap (λ (b : List ℕ). filled_by c.args.request.lba c.args.request.n i b c.args.into.now) (c.block.ensures ∙ found_block p i c.in-Some.place d v first under),
+          ∙ ap (λ (b : List ℕ). filled_by c.args.request.lba c.args.request.n i b c.args.into.now) (c.block.ensures ∙ found_block p i c.in-Some.index d v first under),
     )
 
 pub returns-in-None-clause-cause : goal.returns-in-None-clause-cause

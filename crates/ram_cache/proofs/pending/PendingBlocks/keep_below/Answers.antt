@@ -1,6 +1,6 @@
 use Rattle.std.proofs.Common.{◌∙◌, subst, ℕ, ◌<◌, ◌≤◌, length, arith}
 use Rattle.ram_cache.specs.Rooms.{pending_of}
-use Rattle.ram_cache.proofs.Places.{below_removed, before_removed, shorter_removed, all_kept}
+use Rattle.ram_cache.proofs.Indices.{below_removed, before_removed, shorter_removed, all_kept}
 use Rattle.ram_cache.proofs.pending.PendingBlocks.keep_below.Goals as goal
 
 pub loop-k-smaller : goal.loop-k-smaller

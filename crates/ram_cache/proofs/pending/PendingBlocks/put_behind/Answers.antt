@@ -2,7 +2,7 @@ use Rattle.std.proofs.Common.{ℕ, List, subst, sym}
 use Rattle.std.specs.List.{Contains}
 use Rattle.model_cache.specs.Shown.{AreApart}
 use Rattle.ram_cache.specs.Rooms.{pending_of}
-use Rattle.ram_cache.proofs.Places.{front_turned, apart_behind, was_behind}
+use Rattle.ram_cache.proofs.Indices.{front_turned, apart_behind, was_behind}
 use Rattle.ram_cache.proofs.pending.PendingBlocks.put_behind.Goals as goal
 
 pub invariant_of-self : goal.invariant_of-self

@@ -1,5 +1,5 @@
 use Rattle.std.proofs.Common.{sym, arith}
-use Rattle.ram_cache.proofs.Places.{rooms_filled, left_removed, apart_left, whole_left}
+use Rattle.ram_cache.proofs.Indices.{rooms_filled, left_removed, apart_left, whole_left}
 use Rattle.ram_cache.proofs.pending.PendingBlocks.remove.Goals as goal
 
 pub invariant_of-self : goal.invariant_of-self

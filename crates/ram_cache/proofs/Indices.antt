@@ -15,7 +15,7 @@ use Rattle.ram_cache.specs.Rooms.{pending_at}
 -- ---- a list without one of its places
 
 module _ {X : Type 0} where
-  -- the front of a list whose place went to the end
+  -- the front of a list whose element at an index went to the end
   pub front_removed : (xs : List X) (k n : ℕ) (d : X) → k < n → n ≤ length xs → take (n - 1) (remove xs k ++ get_or xs k d ∷ []) ≡ remove (take n xs) k
   front_removed xs k n d within long =
       let short = length-remove xs k (omega arith) in
@@ -54,7 +54,7 @@ module _ {X : Type 0} where
   filter-removed p (x ∷ xs) (suc k) d within fails =
       ap (λ (l : List X). cond (p x) (x ∷ l) l) (filter-removed p xs k d (omega arith) fails)
 
-  -- what passes at each place is kept whole
+  -- what passes at each index is kept whole
   pub filter-all : (p : X → Bool) (xs : List X) (d : X) → ((j : ℕ) → j < length xs → p (get_or xs j d) ≡ true) → filter p xs ≡ xs
   filter-all p [] d all = refl
   filter-all p (x ∷ xs) d all =
@@ -70,7 +70,7 @@ apart-removed (held ∷ p) (suc k) apart =
 
 -- ---- numbers
 
--- the one at a place is one of the list
+-- the one at an index is one of the list
 pub Contains-held : (p : List (ℕ × List ℕ)) (k : ℕ) → k < length p → Contains p (pending_at p k)
 Contains-held p k within = Contains-get_or p k (0, []) within
 
@@ -86,7 +86,7 @@ others_stay i (held ∷ rest) none =
     is_same true f = refl
     is_same false f = absurd (let w = f in cc)
 
--- the blocks without the one at a place are those with other numbers
+-- the blocks without the one at an index are those with other numbers
 pub but_removed : (p : List (ℕ × List ℕ)) (k : ℕ) → AreApart p → k < length p → pending_but ((pending_at p k).0) p ≡ remove p k
 but_removed [] k apart within = absurd (omega arith)
 but_removed (held ∷ p) zero apart within =
@@ -114,13 +114,13 @@ only_held (held ∷ p) (suc k) apart within =
     (ne_eqb held.0 ((pending_at p k).0) (λ e. apart.0 ((pending_at p k).1) (subst (λ (n : ℕ). Contains p (n, (pending_at p k).1)) (sym e) (Contains-held p k (omega arith)))))
     ∙ only_held p k (apart.1) (omega arith)
 
--- the blocks with the one at a place behind the others
+-- the blocks with the one at an index behind the others
 pub behind_removed : (p : List (ℕ × List ℕ)) (k : ℕ) → AreApart p → k < length p → put_behind ((pending_at p k).0) p ≡ remove p k ++ pending_at p k ∷ []
 behind_removed p k apart within =
     ap (λ (l : List (ℕ × List ℕ)). l ++ filter (λ (held : ℕ × List ℕ). held.0 == (pending_at p k).0) p) (but_removed p k apart within)
     ∙ ap (λ (l : List (ℕ × List ℕ)). remove p k ++ l) (only_held p k apart within)
 
--- one that stands in no other place stays apart behind them
+-- one that stands at no other index stays apart behind them
 apart_end : (p : List (ℕ × List ℕ)) (held : ℕ × List ℕ) → AreApart p → ((bytes : List ℕ) → ¬ Contains p (held.0, bytes)) → AreApart (p ++ held ∷ [])
 apart_end [] held apart none = (λ bytes has. Contains-none (held.0, bytes) has, tt)
 apart_end (x ∷ p) held apart none = (
@@ -154,7 +154,7 @@ was_behind p k within held has = elim (Contains-append_cases (remove p k) (pendi
   ]
 ]
 
--- the numbers that pass a test, of which the first is at this place
+-- the numbers that pass a test, of which the first is at this index
 pub first_due : (t : ℕ → Bool) (p : List (ℕ × List ℕ)) (k : ℕ) → k < length p → t ((pending_at p k).0) ≡ true → ((j : ℕ) → j < k → t ((pending_at p j).0) ≡ false)
     → filter t (numbers_in p) ≡ (pending_at p k).0 ∷ filter t (numbers_in (remove p k))
 first_due t [] k within passes before = absurd (omega arith)
@@ -197,7 +197,7 @@ front_turned items rooms now k count {len} within long many few same put =
     ∙ ap (take count) whole
     ∙ take_at (remove (take count items) k ++ pending_at (take count items) k ∷ []) (drop count items) count turned
 
--- the pending blocks without the one at a place, whose room is behind the others
+-- the pending blocks without the one at an index, whose room is behind the others
 module _ (items new : List (ℕ × List ℕ)) (k count : ℕ) {len : ℕ} (within : k < length (take count items)) (long : length items ≡ len) (many : len ≡ 32) (few : count ≤ 32)
     (put : new ≡ remove items k ++ get_or items k (0, []) ∷ []) where
   pub left_removed : take (count - 1) new ≡ remove (take count items) k
