@@ -3,7 +3,7 @@ use Rattle.std.specs.Prelude.{◌≡◌, ◌⊎◌, ◌&&◌, ◌==◌, ◌<◌,
 use Rattle.std.specs.Option.{option_map_or}
 use Rattle.std.specs.List.{Contains, find}
 use Rattle.std.proofs.Common.{arith, refl, sym, ap, ◌∙◌, inl, inr, subst}
-use Rattle.std.proofs.lemmas.Bool.{eq-eqb, ltb-true, not_from_true}
+use Rattle.std.proofs.lemmas.Bool.{ltb-true}
 use Rattle.model_geometry.specs.Geometry.{Shape, shape_in}
 use Rattle.model_sectors.specs.declared.ReadOut.{ReadOut}
 use Rattle.model_sectors.specs.declared.ReadOut.TheVariants as reads
@@ -19,11 +19,10 @@ use Rattle.model_cache.specs.declared.SyncOut.TheVariants as syncs
 use Rattle.model_cache.specs.declared.TickOut.{TickOut}
 use Rattle.model_cache.specs.declared.TickOut.TheVariants as ticks
 use Rattle.model_cache.specs.Values.{Contents, IsPending}
-use Rattle.model_cache.specs.Shown.{CacheShown, dropped, pending_in, pending_below}
+use Rattle.model_cache.specs.Shown.{CacheShown, pending_below}
 use Rattle.model_cache.specs.Plain.{uncached}
 use Rattle.model_cache.specs.Causes.{CacheReadCause, CacheVerifyCause, CacheWriteCause, CacheFormatCause, CacheExpandCause, KeepsCache, SyncCause, TickCause, leaves_after_read}
-use Rattle.model_cache.proofs.Members.{Contains-none, Contains-first, Contains-cases, Contains-passed}
-use Rattle.model_cache.proofs.FlushedHomes.{FlushesAll, all_flushed, numbered}
+use Rattle.model_cache.proofs.Members.{Contains-first, Contains-passed}
 use Rattle.model_cache.proofs.Plainly.{is_uncached, none_drained, plain_read_cause, plain_verify_cause, plain_write_cause, plain_format_cause, plain_expand_cause}
 use Rattle.model_scrub.proofs.Chained.{HoldsOfVerifications, of_step, of_pass}
 use Rattle.model_commands.specs.declared.Operation.{Operation}
@@ -53,6 +52,7 @@ use Rattle.ram_machine.specs.Answered.{AnsweredStep}
 use Rattle.ram_mmc.proofs.Judged.{allowed_holds}
 use Rattle.ram_machine.proofs.CacheModes.{read_mode, write_mode, sync_mode, tick_mode}
 use Rattle.ram_survival.specs.Idle.{IsIdle, PendsNothingIdle}
+use Rattle.ram_survival.proofs.SafeBlocks.{synced_out}
 
 -- ---- synchronisations
 
@@ -60,27 +60,8 @@ no_members : (pending : List (ℕ × List ℕ)) → ((i : ℕ) → ¬ IsPending 
 no_members [] none = refl
 no_members (held ∷ pending) none = absurd (none held.0 (held.1, Contains-first {X = ℕ × List ℕ} held pending))
 
--- each pending block was flushed
-all_left : (due : List ℕ) (old new : CacheShown) → FlushesAll old due new → ((i : ℕ) → IsPending old.pending i → Contains due i) → new.pending ≡ []
-all_left [] old new same all = subst (λ (s : CacheShown). s.pending ≡ []) (sym same) (no_members old.pending (λ i held. Contains-none i (all i held)))
-all_left (i ∷ due) old new (mid, flush, more) all = all_left due mid new more later
-  where
-    other : (j : ℕ) (b : Bool) → (j == i) ≡ b → b ≡ true → not (j == i) ≡ true → ⊥
-    other j b is yes_is no_is = (let e : not (j == i) ≡ false = not_from_true (j == i) (is ∙ yes_is) in cc)
-
-    later : (j : ℕ) → IsPending mid.pending j → Contains due j
-    later j held =
-        let was = Contains-passed {X = ℕ × List ℕ} (λ (h : ℕ × List ℕ). not (h.0 == i)) old.pending (j, held.0) (subst (λ (p : List (ℕ × List ℕ)). Contains {X = ℕ × List ℕ} p (j, held.0)) flush.left held.1) in
-        elim (Contains-cases i due j (all j (held.0, was.1))) [
-          | inl same ↦ absurd (other j (j == i) refl (eq-eqb j i (sym same)) was.0)
-          | inr there ↦ there
-        ]
-
 sync_empties : (old new : CacheShown) → SyncCause old new syncs.Good → new.pending ≡ []
-sync_empties old new cause =
-    all_left (pending_in (dropped old)) (dropped old) new
-    (all_flushed (pending_in (dropped old)) (length (pending_in (dropped old))) (dropped old) new cause.drained.0 (omega arith) cause.drained.1)
-    (λ i held. numbered (dropped old).pending i held.0 held.1)
+sync_empties old new cause = no_members new.pending (λ i held. synced_out i old new cause held)
 
 -- a disc that is not formatted has no block
 no_blocks : (lists : Option Lists) (count : Lists → ℕ) → ¬ IsSome lists → option_map_or count lists 0 ≡ 0

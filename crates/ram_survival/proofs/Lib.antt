@@ -6,3 +6,4 @@ mod LivingRuns
 mod SafeBlocks
 mod DrainedBlocks
 mod IdleCache
+mod SettledBlocks

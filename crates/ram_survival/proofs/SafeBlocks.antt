@@ -53,7 +53,7 @@ none_due (j ∷ due) old new is i has held = elim (Contains-cases j due i has) [
 
 module _ (i : ℕ) where
   -- after a synchronisation nothing is pending
-  synced_out : (old new : CacheShown) → SyncCause old new syncs.Good → ¬ IsPending new.pending i
+  pub synced_out : (old new : CacheShown) → SyncCause old new syncs.Good → ¬ IsPending new.pending i
   synced_out old new cause held =
       let flushed = all_flushed (pending_in (dropped old)) (length (pending_in (dropped old))) (dropped old) new cause.drained.0 (omega arith) cause.drained.1 in
       let before = flushed_out (pending_in (dropped old)) (dropped old) new flushed i held in

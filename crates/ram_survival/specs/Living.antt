@@ -1,6 +1,6 @@
 -- That a block can be read until it dies, in a user's words: what is safe, which lines leave it, and what holds of it from one line to
 -- the next. For the laws of runs. (This project's own, as all here.)
-use Rattle.std.specs.Prelude.{◌≡◌, ◌⊎◌, ℕ, Result, Ok, Err, List, All}
+use Rattle.std.specs.Prelude.{◌≡◌, ◌⊎◌, ℕ, Bool, Result, Ok, Err, List, All}
 use Rattle.model_geometry.specs.Geometry.{IsLawful, shape_of}
 use Rattle.model_medium.specs.Cells.{Dead, IsGood}
 use Rattle.model_drive.specs.declared.Kind.TheVariants as kinds
@@ -69,6 +69,11 @@ pub record StaysReadable (shown : CacheShown) (i : ℕ) : Type 0 where
 abbrev pub LivesNow : State → (i : ℕ) → Type 0
 LivesNow (Unopened image) i = ⊥
 LivesNow (Disc s) i = StaysReadable s.disc.shown i
+
+-- the write cache is on in this state, or off
+abbrev pub CachesIn : State → Bool → Type 0
+CachesIn (Unopened image) on = ⊥
+CachesIn (Disc s) on = s.disc.shown.caches ≡ on
 
 -- The line was a command that asks for this, and it was refused with this sense.
 pub record WasRefused (event : AnsweredStep) (asked : Command) (why : Sense) : Type 0 where

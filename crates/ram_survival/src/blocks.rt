@@ -1,5 +1,5 @@
 //! That a block can be read until it dies: laws of runs, functions with an empty body, of which the contract is the law.
-ghost use Rattle.std.specs.Prelude.{◌≡◌, ◌*◌, ℕ, Bool, List};
+ghost use Rattle.std.specs.Prelude.{◌≡◌, ◌*◌, ℕ, Bool, true, false, List};
 ghost use Rattle.model_sectors.specs.Requests.{block_with};
 ghost use Rattle.model_cdb.specs.declared.commands.Command.TheVariants as commands;
 ghost use Rattle.ram_report.specs.declared.printing.Event.TheVariants as told;
@@ -14,7 +14,7 @@ ghost use Rattle.ram_machine.specs.Answered.{AnsweredStep};
 ghost use Rattle.ram_machine.specs.Acknowledged.{WasDone, IsAmong, GoesThrough, IsPendingIn};
 ghost use Rattle.ram_machine.specs.Scrubs.{WasToldUnreadable};
 ghost use Rattle.model_sense.specs.declared.sense.Sense.{Sense};
-ghost use Rattle.ram_survival.specs.Living.{LeavesBlock, LeaveBlock, IsSafe, LivesNow, WasRefused, HasDied};
+ghost use Rattle.ram_survival.specs.Living.{LeavesBlock, LeaveBlock, IsSafe, LivesNow, CachesIn, WasRefused, HasDied};
 
 /// A block that is safe can be read until its home dies, over any lines but those that write a sector of it or format the disc anew:
 /// however they end, wherever cuts come and whatever fails; also in an image that is handed back and opened again. A read that is
@@ -31,8 +31,9 @@ pub fn a_block_can_be_read_until_it_dies()
         → IsStep s event t → WasToldUnreadable event lba n named → HasDied t (block_with named) }
 {}
 
-/// A block is safe after a write of a sector of it, through the write cache, that is answered Good; after a SYNCHRONIZE CACHE that is
-/// answered Good, if it was pending; and after a tick that wrote it. After a SYNCHRONIZE CACHE that was refused each block that was
+/// A block is safe after a write of a sector of it, through the write cache, that is answered Good; after a SYNCHRONIZE CACHE, an
+/// ejection, or a MODE SELECT that turns the cache off, that is answered Good, if it was pending; and after a tick that wrote it. After
+/// a SYNCHRONIZE CACHE that was refused each block that was
 /// pending, and is not any more, can be read until it dies too.
 pub fn what_is_safe()
     ensures written { (s t : State) (event : AnsweredStep) (lba n at : ℕ) (fua : Bool)
@@ -40,6 +41,11 @@ pub fn what_is_safe()
         → IsSafe t (block_with at) }
     ensures synchronised { (s t : State) (event : AnsweredStep) (i : ℕ) (bytes : List ℕ) → IsStep s event t
         → WasDone event commands.Synchronize → IsPendingIn s i bytes → IsSafe t i }
+    ensures ejected { (s t : State) (event : AnsweredStep) (i : ℕ) (bytes : List ℕ) → IsStep s event t
+        → WasDone event (commands.StartStop false true) → IsPendingIn s i bytes → IsSafe t i }
+    ensures turned_off { (s t : State) (event : AnsweredStep) (i : ℕ) (bytes : List ℕ) → IsStep s event t
+        → WasDone event commands.ModeSelect → CachesIn s true → CachesIn t false → IsPendingIn s i bytes
+        → IsSafe t i }
     ensures ticked { (s t : State) (event : AnsweredStep) (i : ℕ) (bytes : List ℕ) → IsStep s event t
         → event.line ≡ lines.Tick → event.reply ≡ replies.Event (told.Written (16 * i)) → IsPendingIn s i bytes
         → IsSafe t i }
