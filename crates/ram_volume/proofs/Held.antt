@@ -45,11 +45,11 @@ pub fail_keeps : (old new : Shown) (block : ℕ) (end : FailEnd) → FailOnDrive
 fail_keeps old new block end rule stands = still_some old new (fail_known old new block end rule) (λ s stood. fail_found new s end (stands s stood))
 
 module _ {M : Type 0} {c : ControlGhosts M} {d : Ghosts M} where
-  -- a place that holds a state
-  pub holds : (place : Option (State M c d)) (state : State M c d) → place ≡ Some state → IsSome place
-  holds place state is = ap is_some is
+  -- a slot that holds a state
+  pub holds : (slot : Option (State M c d)) (state : State M c d) → slot ≡ Some state → IsSome slot
+  holds slot state is = ap is_some is
 
-  held_is : (place : Option (State M c d)) (held : IsSome place) (state : State M c d) → place ≡ Some state → shown_in place held ≡ shown_state state
+  held_is : (slot : Option (State M c d)) (held : IsSome slot) (state : State M c d) → slot ≡ Some state → shown_in slot held ≡ shown_state state
   held_is None held state is = let clash : None ≡ Some state = is in absurd cc
   held_is (Some kept) held state is = ap (λ (o : Option (State M c d)). shown_or (shown_state kept) o) is
     where

@@ -1,25 +1,25 @@
-//! A place whose value is taken out while a call works on it.
+//! A slot whose value is taken out while a call works on it.
 
 ghost use Rattle.std.specs.Prelude.{◌≡◌, IsSome, Some, None};
 
-/// Takes the value out.
-pub fn take_out<T>(place: &mut Option<T>) -> T
-    requires { IsSome place.old }
-    ensures value { place.old ≡ Some result }
-    ensures after { place.new ≡ None }
+/// Takes the value out of its slot.
+pub fn take_out<T>(slot: &mut Option<T>) -> T
+    requires { IsSome slot.old }
+    ensures value { slot.old ≡ Some result }
+    ensures after { slot.new ≡ None }
 {
-    let Some(value) = place.take() else {
+    let Some(value) = slot.take() else {
         unreachable!();
     };
     value
 }
 
-/// Puts a value where there is none.
-pub fn put_in<T>(place: &mut Option<T>, value: T)
-    requires { place.old ≡ None }
-    ensures { place.new ≡ Some value }
+/// Puts a value into a slot that has none.
+pub fn put_in<T>(slot: &mut Option<T>, value: T)
+    requires { slot.old ≡ None }
+    ensures { slot.new ≡ Some value }
 {
-    match place.replace(value) {
+    match slot.replace(value) {
         None => {}
         Some(_before) => unreachable!(),
     }

@@ -9,7 +9,7 @@
 //!   answer NotFormatted; nothing was done then.
 //! - `dds_block` answers false in both cases, and leaves the caller's block.
 //!
-//! `src/calls.rt` has one function for each call of a host, by the state. `Volume` takes its state out of its place and puts the
+//! `src/calls.rt` has one function for each call of a host, by the state. `Volume` takes its state out of its slot and puts the
 //! next one in (`src/holding.rt`). `proofs/CallSteps.antt` has what a call does that its state refuses, and that the power was
 //! off in between is not seen; `proofs/Somes.antt` that a drive stands for something after each call; `proofs/Held.antt` takes
 //! both to what a volume shows.

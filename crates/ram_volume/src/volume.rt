@@ -140,6 +140,8 @@ impl<M: MediumControl> Volume<M> {
     }
 }
 
+// The calls are those of the traits, for every controllable medium. `laws`: it stands for exactly what goes with what it shows, and for
+// something; what it shows is sound.
 impl<M: MediumControl> Sectors for Volume<M> {
     ghost use Rattle.model_medium.specs.Happened.{Happened};
     ghost use Rattle.model_medium.proofs.Happening.{happened_none, happened_then};
@@ -154,11 +156,6 @@ impl<M: MediumControl> Sectors for Volume<M> {
 
     ghost underwent = { λ old new. Happened M.takes (medium_by old) (medium_by new) };
 
-    /// # Clauses
-    ///
-    /// - all of `Sectors` and `Disc`: what the traits say, for every controllable medium: `power` turns the power off, where it
-    ///   is on, and on; the rest stands below the table.
-    /// - `laws`: it stands for exactly what goes with what it shows; it stands for something; what it shows is sound.
     fn capacity(&self) -> Option<u32> {
         match &self.state {
             Some(State::Ready(ready)) => Some(ready.capacity()),
@@ -166,11 +163,6 @@ impl<M: MediumControl> Sectors for Volume<M> {
         }
     }
 
-    /// # Clauses
-    ///
-    /// - all of `Sectors` and `Disc`: what the traits say, for every controllable medium: `power` turns the power off, where it
-    ///   is on, and on; the rest stands below the table.
-    /// - `laws`: it stands for exactly what goes with what it shows; it stands for something; what it shows is sound.
     fn read(&mut self, lba: u32, n: u32, into: &mut [u8]) -> ReadOut {
         let state = take_out(&mut self.state);
         let (state, out) = read_state(state, lba, n, into);
@@ -178,11 +170,6 @@ impl<M: MediumControl> Sectors for Volume<M> {
         out
     }
 
-    /// # Clauses
-    ///
-    /// - all of `Sectors` and `Disc`: what the traits say, for every controllable medium: `power` turns the power off, where it
-    ///   is on, and on; the rest stands below the table.
-    /// - `laws`: it stands for exactly what goes with what it shows; it stands for something; what it shows is sound.
     fn write(&mut self, lba: u32, n: u32, from: &[u8]) -> WriteOut {
         let state = take_out(&mut self.state);
         let (state, out) = write_state(state, lba, n, from);
@@ -190,11 +177,6 @@ impl<M: MediumControl> Sectors for Volume<M> {
         out
     }
 
-    /// # Clauses
-    ///
-    /// - all of `Sectors` and `Disc`: what the traits say, for every controllable medium: `power` turns the power off, where it
-    ///   is on, and on; the rest stands below the table.
-    /// - `laws`: it stands for exactly what goes with what it shows; it stands for something; what it shows is sound.
     fn power(&mut self) -> PowerOut {
         let state = take_out(&mut self.state);
         let (state, out) = power_state(state);
@@ -216,11 +198,6 @@ impl<M: MediumControl> Sectors for Volume<M> {
 }
 
 impl<M: MediumControl> Disc for Volume<M> {
-    /// # Clauses
-    ///
-    /// - all of `Sectors` and `Disc`: what the traits say, for every controllable medium: `power` turns the power off, where it
-    ///   is on, and on; the rest stands below the table.
-    /// - `laws`: it stands for exactly what goes with what it shows; it stands for something; what it shows is sound.
     fn format(&mut self, kind: Kind) -> FormatOut {
         let state = take_out(&mut self.state);
         let (state, out) = format_state(state, kind);
@@ -228,11 +205,6 @@ impl<M: MediumControl> Disc for Volume<M> {
         out
     }
 
-    /// # Clauses
-    ///
-    /// - all of `Sectors` and `Disc`: what the traits say, for every controllable medium: `power` turns the power off, where it
-    ///   is on, and on; the rest stands below the table.
-    /// - `laws`: it stands for exactly what goes with what it shows; it stands for something; what it shows is sound.
     fn expand(&mut self, capacity: u32) -> ExpandOut {
         let state = take_out(&mut self.state);
         let (state, out) = expand_state(state, capacity);
@@ -240,11 +212,6 @@ impl<M: MediumControl> Disc for Volume<M> {
         out
     }
 
-    /// # Clauses
-    ///
-    /// - all of `Sectors` and `Disc`: what the traits say, for every controllable medium: `power` turns the power off, where it
-    ///   is on, and on; the rest stands below the table.
-    /// - `laws`: it stands for exactly what goes with what it shows; it stands for something; what it shows is sound.
     fn verify(&mut self, lba: u32, n: u32) -> ReadOut {
         let state = take_out(&mut self.state);
         let (state, out) = verify_state(state, lba, n);
@@ -252,11 +219,6 @@ impl<M: MediumControl> Disc for Volume<M> {
         out
     }
 
-    /// # Clauses
-    ///
-    /// - all of `Sectors` and `Disc`: what the traits say, for every controllable medium: `power` turns the power off, where it
-    ///   is on, and on; the rest stands below the table.
-    /// - `laws`: it stands for exactly what goes with what it shows; it stands for something; what it shows is sound.
     fn counts(&self) -> DriveCounts {
         match &self.state {
             Some(State::Off(off)) => off.counts(),
@@ -266,11 +228,6 @@ impl<M: MediumControl> Disc for Volume<M> {
         }
     }
 
-    /// # Clauses
-    ///
-    /// - all of `Sectors` and `Disc`: what the traits say, for every controllable medium: `power` turns the power off, where it
-    ///   is on, and on; the rest stands below the table.
-    /// - `laws`: it stands for exactly what goes with what it shows; it stands for something; what it shows is sound.
     fn dds_block(&self, into: &mut Block) -> bool {
         match &self.state {
             Some(State::Ready(ready)) => {
@@ -281,11 +238,6 @@ impl<M: MediumControl> Disc for Volume<M> {
         }
     }
 
-    /// # Clauses
-    ///
-    /// - all of `Sectors` and `Disc`: what the traits say, for every controllable medium: `power` turns the power off, where it
-    ///   is on, and on; the rest stands below the table.
-    /// - `laws`: it stands for exactly what goes with what it shows; it stands for something; what it shows is sound.
     fn exchange_room(&mut self, room: &mut Block) {
         if let Some(state) = &mut self.state {
             state.exchange_room(room);

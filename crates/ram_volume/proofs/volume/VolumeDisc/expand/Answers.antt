@@ -3,14 +3,14 @@ use Rattle.ram_volume.proofs.volume.VolumeDisc.expand.Goals as goal
 
 pub invariant_of-self : goal.invariant_of-self
 invariant_of-self g c =
-    let held = holds c.put_in.new.place c.expand_state-state.result.0 c.put_in.ensures in
+    let held = holds c.put_in.new.slot c.expand_state-state.result.0 c.put_in.ensures in
     record {
       held = held;
-      some = some_held c.take_out-state.result c.expand_state-state.result.0 c.args.self.now.state c.put_in.new.place c.args.self.now.held held c.take_out-state.ensures.value c.put_in.ensures
+      some = some_held c.take_out-state.result c.expand_state-state.result.0 c.args.self.now.state c.put_in.new.slot c.args.self.now.held held c.take_out-state.ensures.value c.put_in.ensures
           c.expand_state-state.ensures.some c.args.self.now.some;
     }
 
 pub returns-clause-step : goal.returns-clause-step
 returns-clause-step g c =
-    expand_held c.take_out-state.result c.expand_state-state.result.0 c.args.self.now.state c.put_in.new.place c.args.self.now.held _ c.take_out-state.ensures.value c.put_in.ensures
+    expand_held c.take_out-state.result c.expand_state-state.result.0 c.args.self.now.state c.put_in.new.slot c.args.self.now.held _ c.take_out-state.ensures.value c.put_in.ensures
     c.args.capacity c.expand_state-state.result.1 c.expand_state-state.ensures.step
