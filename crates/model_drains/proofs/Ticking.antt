@@ -17,7 +17,7 @@ use Rattle.model_cache.proofs.Members.{Contains-none, Contains-cases, Contains-f
 use Rattle.model_cache.proofs.FlushedHomes.{flush_counts, flush_known}
 use Rattle.model_cache.proofs.Refusals.{refuses}
 use Rattle.model_drains.specs.Leaving.{IsOutOrCannotLeave}
-use Rattle.model_drains.specs.Ticks.{GoesOn, Ticks}
+use Rattle.model_drains.specs.Ticks.{TickGoesOn, Ticks}
 use Rattle.model_drains.proofs.Stuck.{IsEnded, ended_out, stays_ended, all_ended, refusal_known}
 
 -- ---- a number among the first n of a list
@@ -160,7 +160,7 @@ nothing_early old n j none on = record {
   ];
 }
 
-one_tick : (old new : CacheShown) (n j : ℕ) (out : TickOut) → TickCause old new out → GoesOn out → IsOnItsWay (suc n) old j → IsOnItsWay n new j
+one_tick : (old new : CacheShown) (n j : ℕ) (out : TickOut) → TickCause old new out → TickGoesOn out → IsOnItsWay (suc n) old j → IsOnItsWay n new j
 one_tick old new n j ticks.Idle idle goes on = subst (λ (s : CacheShown). IsOnItsWay n s j) (sym idle.nothing) (nothing_early old n j idle.none on)
 one_tick old new n j (ticks.Written lba) (oldest, lba_is) goes on =
     tick_tries old new n j writes.Good oldest (tried_one (dropped old) new oldest.block 0 oldest.drained.0 on.sound oldest.drained.1) on

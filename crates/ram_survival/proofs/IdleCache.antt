@@ -51,7 +51,7 @@ use Rattle.ram_machine.specs.Runs.{Run}
 use Rattle.ram_machine.specs.Answered.{AnsweredStep}
 use Rattle.ram_mmc.proofs.Judged.{allowed_holds}
 use Rattle.ram_machine.proofs.CacheModes.{read_mode, write_mode, sync_mode, tick_mode}
-use Rattle.ram_survival.specs.Idle.{IsIdle, PendsNothingIdle}
+use Rattle.ram_survival.specs.Idle.{IsCacheIdle, PendsNothingIdle}
 use Rattle.ram_survival.proofs.SafeBlocks.{synced_out}
 
 -- ---- synchronisations
@@ -200,13 +200,13 @@ either false x y same = refl
 module _ (old new : CacheShown) (before after : Contents → Type 0) (host later : Host) where
   -- nothing is pending, if it was not while the cache was off or the disc out
   abbrev Stays : Type 0
-  Stays = (IsIdle old host → old.pending ≡ []) → IsIdle new later → new.pending ≡ []
+  Stays = (IsCacheIdle old host → old.pending ≡ []) → IsCacheIdle new later → new.pending ≡ []
 
-  was_idle : new.caches ≡ old.caches → later.out ≡ host.out → IsIdle new later → IsIdle old host
+  was_idle : new.caches ≡ old.caches → later.out ≡ host.out → IsCacheIdle new later → IsCacheIdle old host
   was_idle mode out (inl off) = inl (sym mode ∙ off)
   was_idle mode out (inr gone) = inr (sym out ∙ gone)
 
-  ordinary : new.caches ≡ old.caches → later.out ≡ host.out → (IsIdle old host → old.pending ≡ [] → new.pending ≡ []) → Stays
+  ordinary : new.caches ≡ old.caches → later.out ≡ host.out → (IsCacheIdle old host → old.pending ≡ [] → new.pending ≡ []) → Stays
   ordinary mode out empties was idle = let before_idle = was_idle mode out idle in empties before_idle (was before_idle)
 
   untouched : later.out ≡ host.out → new ≡ old → Stays
@@ -217,19 +217,19 @@ module _ (old new : CacheShown) (before after : Contents → Type 0) (host later
 
   -- a command that needs a disc, which is in
   module _ (inside : host.out ≡ true → ⊥) where
-    was_off : IsIdle old host → old.pending ≡ [] → old ≡ uncached old.drive
+    was_off : IsCacheIdle old host → old.pending ≡ [] → old ≡ uncached old.drive
     was_off (inl off) none = is_uncached old none off
     was_off (inr out) none = absurd (inside out)
 
-    read : (lba n : ℕ) (out : ReadOut) → CacheReadCause old new lba n out → IsIdle old host → old.pending ≡ [] → new.pending ≡ []
+    read : (lba n : ℕ) (out : ReadOut) → CacheReadCause old new lba n out → IsCacheIdle old host → old.pending ≡ [] → new.pending ≡ []
     read lba n out cause idle none =
         pending_of new (uncached new.drive) (plain_read_cause old.drive new lba n out (subst (λ (s : CacheShown). CacheReadCause s new lba n out) (was_off idle none) cause)).1 refl
 
-    verify : (lba n : ℕ) (out : ReadOut) → CacheVerifyCause old new lba n out → IsIdle old host → old.pending ≡ [] → new.pending ≡ []
+    verify : (lba n : ℕ) (out : ReadOut) → CacheVerifyCause old new lba n out → IsCacheIdle old host → old.pending ≡ [] → new.pending ≡ []
     verify lba n out cause idle none =
         pending_of new (uncached new.drive) (plain_verify_cause old.drive new lba n out (subst (λ (s : CacheShown). CacheVerifyCause s new lba n out) (was_off idle none) cause)).1 refl
 
-    write : (lba n : ℕ) (fua : Bool) (bytes : List ℕ) (out : WriteOut) → WrittenCause old new lba n bytes fua out → IsIdle old host → old.pending ≡ [] → new.pending ≡ []
+    write : (lba n : ℕ) (fua : Bool) (bytes : List ℕ) (out : WriteOut) → WrittenCause old new lba n bytes fua out → IsCacheIdle old host → old.pending ≡ [] → new.pending ≡ []
     write lba n fua bytes out cause idle none =
         pending_of new (uncached new.drive) (plain_write_cause old.drive new lba n bytes out (by_fua fua (subst (λ (s : CacheShown). WrittenCause s new lba n bytes fua out) (was_off idle none) cause))).1 refl
       where
@@ -237,11 +237,11 @@ module _ (old new : CacheShown) (before after : Contents → Type 0) (host later
         by_fua true through = through
         by_fua false by_cache = by_cache
 
-    format : (kind : Kind) (out : FormatOut) → CacheFormatCause old new kind out → IsIdle old host → old.pending ≡ [] → new.pending ≡ []
+    format : (kind : Kind) (out : FormatOut) → CacheFormatCause old new kind out → IsCacheIdle old host → old.pending ≡ [] → new.pending ≡ []
     format kind out cause idle none =
         pending_of new (uncached new.drive) (plain_format_cause old.drive new kind out (subst (λ (s : CacheShown). CacheFormatCause s new kind out) (was_off idle none) cause)).1 refl
 
-    expand : (sectors : ℕ) (out : ExpandOut) → CacheExpandCause old new sectors out → IsIdle old host → old.pending ≡ [] → new.pending ≡ []
+    expand : (sectors : ℕ) (out : ExpandOut) → CacheExpandCause old new sectors out → IsCacheIdle old host → old.pending ≡ [] → new.pending ≡ []
     expand sectors out cause idle none =
         pending_of new (uncached new.drive) (plain_expand_cause old.drive new sectors out (subst (λ (s : CacheShown). CacheExpandCause s new sectors out) (was_off idle none) cause)).1 refl
 
@@ -345,7 +345,7 @@ module _ (old new : CacheShown) (before after : Contents → Type 0) (host later
 
 -- ---- states
 
-inserted_idle : (t : Served) (drive : Shown) → t.disc.shown ≡ uncached drive → IsIdle t.disc.shown t.host → t.disc.shown.pending ≡ []
+inserted_idle : (t : Served) (drive : Shown) → t.disc.shown ≡ uncached drive → IsCacheIdle t.disc.shown t.host → t.disc.shown.pending ≡ []
 inserted_idle t drive is idle = pending_of t.disc.shown (uncached drive) is refl
 
 on_disc_idle : (s : Served) (t : State) (line : Line) (payload : List ℕ) (outcome : Outcome) (data_in : List ℕ) → OnDisc (Disc s) line payload outcome data_in t → PendsNothingIdle (Disc s) → PendsNothingIdle t

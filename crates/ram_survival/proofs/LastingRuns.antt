@@ -61,7 +61,7 @@ use Rattle.ram_machine.specs.Runs.{IsStep, Run}
 use Rattle.ram_machine.specs.Answered.{AnsweredStep}
 use Rattle.ram_machine.specs.OnlyTold.{WasOnlyTold, UnlessTold}
 use Rattle.ram_machine.proofs.OnlyTold.{IsUnchangedIn, told_same}
-use Rattle.ram_survival.specs.Survival.{KeepsAsAsked, KeepsAsDecoded, KeepsDisc, KeepDisc, AsksNoExpansion, LeavesCapacity, LeaveCapacity, sizes_expanded, sizes_asked, sizes_powered, sizes_with, sizes_after, sizes_left, IsCapacityBy, HasShape, HasInUse, HasTwoCopies, LastsNow, IsReadyOrCut, RunLeaves}
+use Rattle.ram_survival.specs.Survival.{KeepsAsAsked, KeepsAsDecoded, KeepsDisc, KeepDisc, AsksNoExpansion, LeavesCapacity, LeaveCapacity, sizes_outcome, sizes_asked, sizes_powered, sizes_with, sizes_after, sizes_left, IsCapacityBy, HasShape, HasInUse, HasTwoCopies, LastsNow, IsReadyOrCut, RunLeaves}
 use Rattle.ram_machine.proofs.Images.{image_left, kind_again}
 use Rattle.ram_machine.proofs.Scrubbed.{AtMostDies, at_most_dies}
 use Rattle.ram_machine.proofs.SoundChains.{contents_known, IsWell}
@@ -248,7 +248,7 @@ module _ (old new : CacheShown) (same : new.drive.shape ≡ old.drive.shape) (wa
   told_lasts false alloc answer data_in p = untouched_lasts p.untouched.same
 
   -- an expansion, by how it comes out
-  sizes_by : (cdb : List ℕ) (sectors : ℕ) (out : ExpandOut) → by_out old.drive.shape sectors out sizes ≡ sizes_expanded old.drive.shape sectors (command_outcome cdb (expand_answer out)) sizes
+  sizes_by : (cdb : List ℕ) (sectors : ℕ) (out : ExpandOut) → by_out old.drive.shape sectors out sizes ≡ sizes_outcome old.drive.shape sectors (command_outcome cdb (expand_answer out)) sizes
   sizes_by cdb sectors expands.Good = refl
   sizes_by cdb sectors expands.NotFormatted = refl
   sizes_by cdb sectors (expands.Refused known) = refl
@@ -258,9 +258,9 @@ module _ (old new : CacheShown) (same : new.drive.shape ≡ old.drive.shape) (wa
   sizes_by cdb sectors expands.Fault = refl
 
   expanded_lasts : (cdb : List ℕ) (sectors : ℕ) (answer : Answer) (data_in : List ℕ) → IsExpanded old new before after sectors answer data_in
-      → StaysFormatted new.drive version (sizes_expanded old.drive.shape sectors (command_outcome cdb answer) sizes)
+      → StaysFormatted new.drive version (sizes_outcome old.drive.shape sectors (command_outcome cdb answer) sizes)
   expanded_lasts cdb sectors answer data_in p =
-      subst (λ (a : Answer). StaysFormatted new.drive version (sizes_expanded old.drive.shape sectors (command_outcome cdb a) sizes)) (sym p.answer_is)
+      subst (λ (a : Answer). StaysFormatted new.drive version (sizes_outcome old.drive.shape sectors (command_outcome cdb a) sizes)) (sym p.answer_is)
       (subst (StaysFormatted new.drive version) (sizes_by cdb sectors p.out)
       (expand_stays old.drive new.drive version sizes same s sound is_known was_sound was_known sectors p.out p.cause.0))
 
@@ -419,7 +419,7 @@ told_shape shape (Disc s) (Unopened image) is has = absurd is
 told_shape shape (Disc s) (Disc t) is has = ap (λ (x : Shown). x.shape) is.same_drive ∙ has
 
 -- it leaves the sizes
-told_expanded : (shape : Shape) (sectors : ℕ) (reply : Reply) (sizes : List ℕ) → WasOnlyTold reply → sizes_expanded shape sectors (Ok reply) sizes ≡ sizes
+told_expanded : (shape : Shape) (sectors : ℕ) (reply : Reply) (sizes : List ℕ) → WasOnlyTold reply → sizes_outcome shape sectors (Ok reply) sizes ≡ sizes
 told_expanded shape sectors (replies.Command cdb answers.Good) sizes told = absurd (false≢true told)
 told_expanded shape sectors (replies.Command cdb answers.Cut) sizes told = absurd (false≢true told)
 told_expanded shape sectors (replies.Command cdb (answers.Check why)) sizes told = refl

@@ -5,10 +5,10 @@ use Rattle.model_target.specs.declared.host.Host.{Host}
 use Rattle.ram_machine.specs.States.{State, Unopened, Disc}
 
 -- the write cache is off, or the disc is out
-abbrev pub IsIdle : CacheShown → Host → Type 0
-IsIdle shown host = (shown.caches ≡ false) ⊎ (host.out ≡ true)
+abbrev pub IsCacheIdle : CacheShown → Host → Type 0
+IsCacheIdle shown host = (shown.caches ≡ false) ⊎ (host.out ≡ true)
 
 -- nothing is pending where the write cache of this drive is off, or its disc is out
 abbrev pub PendsNothingIdle : State → Type 0
 PendsNothingIdle (Unopened image) = Unit {0}
-PendsNothingIdle (Disc s) = IsIdle s.disc.shown s.host → s.disc.shown.pending ≡ []
+PendsNothingIdle (Disc s) = IsCacheIdle s.disc.shown s.host → s.disc.shown.pending ≡ []

@@ -62,15 +62,15 @@ LeaveCapacity events = All (UnlessTold LeavesCapacity) events
 
 -- The sizes that the supplementary area may have after an expansion that was to leave so many sectors: the one that leaves them,
 -- where it was good; that one too, where the power was cut or the image failed; and else those that it might have before.
-abbrev pub sizes_expanded : Shape → (sectors : ℕ) → Outcome → List ℕ → List ℕ
-sizes_expanded shape sectors (Ok (replies.Command cdb answers.Good)) sizes = ssa_for shape sectors ∷ []
-sizes_expanded shape sectors (Ok (replies.Command cdb answers.Cut)) sizes = ssa_for shape sectors ∷ sizes
-sizes_expanded shape sectors (Ok reply) sizes = sizes
-sizes_expanded shape sectors (Err why) sizes = ssa_for shape sectors ∷ sizes
+abbrev pub sizes_outcome : Shape → (sectors : ℕ) → Outcome → List ℕ → List ℕ
+sizes_outcome shape sectors (Ok (replies.Command cdb answers.Good)) sizes = ssa_for shape sectors ∷ []
+sizes_outcome shape sectors (Ok (replies.Command cdb answers.Cut)) sizes = ssa_for shape sectors ∷ sizes
+sizes_outcome shape sectors (Ok reply) sizes = sizes
+sizes_outcome shape sectors (Err why) sizes = ssa_for shape sectors ∷ sizes
 
 -- the same of any command: no other changes them
 abbrev pub sizes_asked : Shape → Result Command Sense → Outcome → List ℕ → List ℕ
-sizes_asked shape (Ok (commands.Expand sectors)) outcome sizes = sizes_expanded shape sectors outcome sizes
+sizes_asked shape (Ok (commands.Expand sectors)) outcome sizes = sizes_outcome shape sectors outcome sizes
 sizes_asked shape asked outcome sizes = sizes
 
 -- the same of a `power` line: where it tells a capacity, the sizes that give it
