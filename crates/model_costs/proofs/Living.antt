@@ -240,7 +240,7 @@ module _ (i : ℕ) where
 
           -- ---- it was stopped in another block
 
-          stops_living : (stop : Stop) (stopped : StopsInWrite old new lba n stop) → i ≢ next_block lba stopped.course → Lives new i
+          pub stops_living : (stop : Stop) (stopped : StopsInWrite old new lba n stop) → i ≢ next_block lba stopped.course → Lives new i
           stops_living stop stopped apart =
               let fits = next_fits stopped.lists stopped.course stopped.reached stopped.wrote stopped.covered in
               let all = total stopped.lists stopped.course 1 stopped.reached stopped.wrote fits in

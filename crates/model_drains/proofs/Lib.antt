@@ -1,3 +1,4 @@
+pub mod Chains
 pub mod Enough
 pub mod Living
 pub mod Reading

@@ -1,2 +1,3 @@
+pub mod Costing
 pub mod Leaving
 pub mod Ticks

@@ -13,9 +13,11 @@ ghost use Rattle.model_drive.specs.Parts.{IsInRange, NoneCounted};
 ghost use Rattle.model_costs.specs.Costs.{Lives};
 ghost use Rattle.model_cache.specs.declared.SyncOut.{SyncOut};
 ghost use Rattle.model_cache.specs.declared.SyncOut.TheVariants as syncs;
+ghost use Rattle.model_cache.specs.declared.TickOut.{TickOut};
 ghost use Rattle.model_cache.specs.Shown.{CacheShown, dropped, pending_in, pending_covered};
 ghost use Rattle.model_cache.specs.Drains.{Tries, StopsTrying};
-ghost use Rattle.model_cache.specs.Causes.{leave_first, CacheReadCause, CachedCause, SyncCause};
+ghost use Rattle.model_cache.specs.Causes.{leave_first, CacheReadCause, CachedCause, CacheWriteCause, ThroughCause, SyncCause, TickCause, as_write};
+ghost use Rattle.model_drains.specs.Costing.{CostsAtMost, is_stopped, is_stopped_tick};
 ghost use Rattle.model_drains.specs.Leaving.{CannotLeave, IsOutOrCannotLeave, CanReadAll, CanReadRests};
 ghost use Rattle.model_drains.specs.Ticks.{Ticks};
 
@@ -27,6 +29,22 @@ pub fn a_drain_leaves_blocks_living()
     ensures stopped { (old new : CacheShown) (due : List ℕ) (enough : ℕ) (out : WriteOut) (i : ℕ)
         → IsSound old.drive → IsKnown old.drive
         → StopsTrying old new due enough out → ¬ Contains due i → Lives old.drive i → Lives new.drive i }
+{}
+
+/// A call costs one block at most, and none where it was not stopped: each other one that could be read until it died still can. A read
+/// costs none.
+pub fn a_call_with_the_cache_costs_one_block()
+    ensures reads { (old new : CacheShown) (lba n : ℕ) (out : ReadOut) → IsSound old.drive → IsKnown old.drive
+        → CacheReadCause old new lba n out → CostsAtMost false old.drive new.drive }
+    ensures writes { (old new : CacheShown) (lba n : ℕ) (bytes : List ℕ) (out : WriteOut) → IsSound old.drive
+        → IsKnown old.drive → CacheWriteCause old new lba n bytes out
+        → CostsAtMost (is_stopped out) old.drive new.drive }
+    ensures writes_through { (old new : CacheShown) (lba n : ℕ) (out : WriteOut) → IsSound old.drive
+        → IsKnown old.drive → ThroughCause old new lba n out → CostsAtMost (is_stopped out) old.drive new.drive }
+    ensures synchronises { (old new : CacheShown) (out : SyncOut) → IsSound old.drive → IsKnown old.drive
+        → SyncCause old new out → CostsAtMost (is_stopped (as_write out)) old.drive new.drive }
+    ensures ticks { (old new : CacheShown) (out : TickOut) → IsSound old.drive → IsKnown old.drive
+        → TickCause old new out → CostsAtMost (is_stopped_tick out) old.drive new.drive }
 {}
 
 /// Each block that was tried is out, or cannot leave: after a drain of all that are due, after a synchronisation that was not stopped,

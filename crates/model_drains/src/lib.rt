@@ -7,7 +7,7 @@
 mod laws;
 
 pub use laws::{
-    a_drain_leaves_blocks_living, a_write_with_room_in_the_cache_is_good,
-    what_can_leave_the_cache_does, what_is_pending_or_whole_is_read,
-    what_was_tried_is_out_or_cannot_leave,
+    a_call_with_the_cache_costs_one_block, a_drain_leaves_blocks_living,
+    a_write_with_room_in_the_cache_is_good, what_can_leave_the_cache_does,
+    what_is_pending_or_whole_is_read, what_was_tried_is_out_or_cannot_leave,
 };

@@ -7,3 +7,4 @@ mod SafeBlocks
 mod DrainedBlocks
 mod IdleCache
 mod SettledBlocks
+mod Counting

@@ -90,11 +90,11 @@ format_left : (was now : Option Lists) (lists : Lists) (out : FormatOut) (pendin
 format_left None now lists out pending after i is left held = absurd (let clash : None ≡ Some lists = is in cc)
 format_left (Some other) now lists out pending after i is left held = rewrite_left out pending after i left held
 
-some_lists : (o : Option Lists) → IsSome o → (lists : Lists) × (o ≡ Some lists)
+pub some_lists : (o : Option Lists) → IsSome o → (lists : Lists) × (o ≡ Some lists)
 some_lists None some = absurd (true≢false (sym some))
 some_lists (Some lists) some = (lists, refl)
 
-by_lists : (old new : Shown) (was : Option Lists) (lists : Lists) (out : FormatOut) → was ≡ Some lists → FormatCauseBy old new was kinds.Rewrite out → FormatCauseBy old new (Some lists) kinds.Rewrite out
+pub by_lists : (old new : Shown) (was : Option Lists) (lists : Lists) (out : FormatOut) → was ≡ Some lists → FormatCauseBy old new was kinds.Rewrite out → FormatCauseBy old new (Some lists) kinds.Rewrite out
 by_lists old new was lists out is cause = subst (λ (o : Option Lists). FormatCauseBy old new o kinds.Rewrite out) is cause
 
 module _ (i : ℕ) (old new : CacheShown) (same : new.drive.shape ≡ old.drive.shape) (was_sound : IsSound old.drive) (sound : IsSound new.drive) (was_known : IsKnown old.drive) (is_known : IsKnown new.drive)

@@ -1,3 +1,4 @@
 pub mod Survival
 pub mod Living
 pub mod Idle
+pub mod Counted
