@@ -23,8 +23,8 @@ pub record Refuses (old new : CacheShown) (i : ℕ) (out : WriteOut) : Type 0 wh
   pub refused : IsRefusal out
   pub left : new.pending ≡ put_behind i old.pending
 
--- These blocks were tried in turn until enough had left, or all were tried: so many are missing then, and this is the first refusal,
--- if there was one.
+-- The due blocks were tried in turn until enough had left, or all were tried: then `short` more should have left, and `first` is the
+-- first refusal, if there was one.
 abbrev pub Tries : CacheShown → (due : List ℕ) → (enough : ℕ) → CacheShown → (short : ℕ) → Option WriteOut → Type 0
 Tries old due zero new short first = (new ≡ old) × (short ≡ 0) × (first ≡ None)
 Tries old [] (suc enough) new short first = (new ≡ old) × (short ≡ suc enough) × (first ≡ None)

@@ -47,7 +47,7 @@ abbrev pub sizes_found : Shape → PowerOut → List ℕ → List ℕ
 sizes_found shape (powers.Ready known) sizes = filter (λ ssa. count_of shape ssa * 16 == known) sizes
 sizes_found shape out sizes = sizes
 
--- The sizes that the area may have after an expansion that was to leave so many sectors: the one that leaves them, where it is good;
+-- The sizes that the area may have after an expansion that was to leave n sectors: the one that leaves them, where it is good;
 -- that one too, where it was stopped; and else those that it might have before.
 abbrev pub sizes_expanded : Shape → (sectors : ℕ) → ExpandOut → List ℕ → List ℕ
 sizes_expanded shape sectors expands.Good sizes = ssa_for shape sectors ∷ []

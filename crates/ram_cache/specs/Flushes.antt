@@ -62,8 +62,8 @@ FlushContents after (MayHave all) _ = ⊥
 abbrev pub due_of : (among : Bool) → (first count : ℕ) → CacheShown → List ℕ
 due_of among first count shown = due_in among first count shown.pending
 
--- The pending blocks that are due were tried in turn until enough had left, or all were tried, and so many are missing; those of them that
--- are pending now are as many as did not leave.
+-- The pending blocks that are due were tried in turn until enough had left, or all were tried, and `missing` more should have left; as
+-- many of them are pending now as did not leave.
 pub record DrainedDue (old new : CacheShown) (among : Bool) (first count enough missing : ℕ) (told : Option WriteOut) : Type 0 where
   pub tried : Tries old (due_of among first count old) enough new missing told
   pub left : length (due_of among first count new) + enough ≡ length (due_of among first count old) + missing
@@ -76,7 +76,7 @@ pub record LacksSome (old new : CacheShown) (among : Bool) (first count enough :
   pub missing : ℕ
   pub drained : DrainedDue old new among first count enough (suc missing) (Some out)
 
--- What became of the pending blocks that are due, of which so many are to leave.
+-- What became of the pending blocks that are due, of which `enough` are to leave.
 abbrev pub DrainsDue : CacheShown → CacheShown → (among : Bool) → (first count enough : ℕ) → WriteOut → Type 0
 DrainsDue old new among first count enough writes.Good = (told : Option WriteOut) × DrainedDue old new among first count enough 0 told
 DrainsDue old new among first count enough (writes.NoSpare named) = LacksSome old new among first count enough (writes.NoSpare named)
@@ -90,7 +90,7 @@ abbrev pub first_told : Option WriteOut → WriteOut → WriteOut
 first_told None out = out
 first_told (Some told) out = told
 
--- how a drain ends after which so many are missing
+-- how a drain ends that is `missing` blocks short
 abbrev pub drain_out : (missing : ℕ) → Option WriteOut → WriteOut
 drain_out zero told = writes.Good
 drain_out (suc missing) None = writes.Good

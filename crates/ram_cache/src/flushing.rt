@@ -33,7 +33,7 @@ fn first_told(told: Option<WriteOut>, out: WriteOut) -> Option<WriteOut>
     }
 }
 
-/// How a drain ends after which so many blocks are missing, by the first refusal that it met.
+/// Returns how a drain ends that is `missing` blocks short, by the first refusal that it met.
 fn drain_out(missing: usize, told: Option<WriteOut>) -> WriteOut
     ensures { result ≡ drain_out missing told }
 {

@@ -50,7 +50,7 @@ pub fn answer_data(alloc: Global, words: &[&str], answer: &mut String) -> Result
     }
 }
 
-/// Adds what a command block of so many bytes is answered, of this code and else zeros, with three bytes of data.
+/// Adds the answer to a command block of this length, with this code and zeros, with three bytes of data.
 fn add_length(
     alloc: Global,
     code: u8,

@@ -60,7 +60,7 @@ LeavesCapacity _ payload = Unit {0}
 abbrev pub LeaveCapacity : List AnsweredStep → Type 0
 LeaveCapacity events = All (UnlessTold LeavesCapacity) events
 
--- The sizes that the supplementary area may have after an expansion that was to leave so many sectors: the one that leaves them,
+-- The sizes that the supplementary area may have after an expansion that was to leave n sectors: the one that leaves them,
 -- where it was good; that one too, where the power was cut or the image failed; and else those that it might have before.
 abbrev pub sizes_outcome : Shape → (sectors : ℕ) → Outcome → List ℕ → List ℕ
 sizes_outcome shape sectors (Ok (replies.Command cdb answers.Good)) sizes = ssa_for shape sectors ∷ []

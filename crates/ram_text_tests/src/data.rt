@@ -1,8 +1,8 @@
-//! Data in a row, as `2048*fe+1*1a`: so many times this byte, and then the next ones.
+//! Data in a row: `2048*fe+1*1a` is the byte fe 2,048 times, and then 1a once.
 use std::alloc::{AllocError, Global};
 use std::fmt::Write;
 
-/// Adds one part of data: so many times this byte.
+/// Adds one part of data: a byte, repeated.
 fn add_part(data: &mut Vec<u8>, part: &str) -> Result<(), AllocError> {
     let (count, byte) = part.split_once('*').unwrap_or(("0", ""));
     let count: usize = count.parse().unwrap_or(0);

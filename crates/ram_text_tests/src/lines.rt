@@ -91,7 +91,7 @@ fn add_count<T: Conversation>(
     Ok(())
 }
 
-/// `LENGTH`: the lines of a script of so many bytes, in lines of 65,536.
+/// `LENGTH`: the lines of a script of LENGTH bytes, in lines of 65,536.
 pub fn answer_made(alloc: Global, words: &str, answer: &mut String) -> Result<(), AllocError> {
     let source = Made::new(number_of(words) as usize);
     let mut talk = BothEnds::new(source, MemSink::new(alloc, 1, Vec::new(alloc)));

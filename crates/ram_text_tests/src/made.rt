@@ -1,4 +1,4 @@
-//! A source whose bytes are made as they are asked for: a script of so many bytes, in lines of 65,536.
+//! A source whose bytes are made as they are asked for: a script of any length, in lines of 65,536.
 ghost use Rattle.std.specs.Prelude.{None};
 
 use ram_outside::{Source, Take};
@@ -14,7 +14,7 @@ pub struct Made {
 }
 
 impl Made {
-    /// A source of so many bytes.
+    /// A source of `end` bytes.
     pub fn new(end: usize) -> Made {
         Made { at: 0, end }
     }

@@ -38,7 +38,7 @@ pub fn answer_parse(alloc: Global, words: &str, answer: &mut String) -> Result<(
     answer_line(alloc, &line, answer)
 }
 
-/// `COUNT LETTER BEGINNING`: what a line is read as that begins so, with this letter so many times behind.
+/// `COUNT LETTER BEGINNING`: how a line is read that begins with BEGINNING, followed by COUNT times this letter.
 pub fn answer_digits(alloc: Global, words: &str, answer: &mut String) -> Result<(), AllocError> {
     let (count, words) = words.split_once(' ').unwrap_or((words, ""));
     let (letter, beginning) = words.split_once(' ').unwrap_or((words, ""));
