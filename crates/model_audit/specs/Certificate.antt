@@ -70,11 +70,13 @@ second_cell shape versions.Two area = (sdl_second_block shape area, Second) ∷ 
 
 -- the cells of the copies of one area, in the order of the lines
 abbrev pub area_cells : Shape → Version → (area : ℕ) → List (ℕ × ListPart)
-area_cells shape version area = (dds_block shape area, Structure) ∷ ((sdl_block shape area, First) ∷ second_cell shape version area)
+area_cells shape version area =
+    (dds_block shape area, Structure) ∷ ((sdl_block shape area, First) ∷ second_cell shape version area)
 
 -- the cells of all copies: area after area
 unfoldable pub list_cells : Shape → Version → List (ℕ × ListPart)
-list_cells shape version = area_cells shape version 1 ++ (area_cells shape version 2 ++ (area_cells shape version 3 ++ area_cells shape version 4))
+list_cells shape version =
+    area_cells shape version 1 ++ (area_cells shape version 2 ++ (area_cells shape version 3 ++ area_cells shape version 4))
 
 -- What a cell has, beside what it should hold.
 abbrev pub CellSays : Lists → ListPart → Cell → CopyState → Type 0
@@ -101,11 +103,13 @@ is_whole Dead = false
 
 -- the line of a logical block, where its home has no whole bytes
 abbrev pub lost_home_line : Shape → List Cell → Lists → (i : ℕ) → List CertificateLine
-lost_home_line shape cells lists i = if is_whole (cell_at cells (home_of shape lists i)) then [] else (lines.Lost (16 * i) ∷ [])
+lost_home_line shape cells lists i =
+    if is_whole (cell_at cells (home_of shape lists i)) then [] else (lines.Lost (16 * i) ∷ [])
 
 -- the lines of all such blocks, rising
 unfoldable pub lost_lines : Shape → List Cell → Lists → List CertificateLine
-lost_lines shape cells lists = flat_map (lost_home_line shape cells lists) (range_with_len 0 (logical_count shape lists))
+lost_lines shape cells lists =
+    flat_map (lost_home_line shape cells lists) (range_with_len 0 (logical_count shape lists))
 
 -- ---- the whole
 

@@ -38,10 +38,13 @@ entries_in _ = []
 
 -- the lists whose structure has this layout, number of spares, version, counter and primary list, and whose secondary list
 -- follows
-abbrev pub lists_behind : LayoutKind → (psa : ℕ) → Version → (counter : ℕ) → List PdlEntry → List CertificateLine → Option Lists
+abbrev pub lists_behind : LayoutKind → (psa : ℕ) → Version → (counter : ℕ) → List PdlEntry
+    → List CertificateLine → Option Lists
 lists_behind layout psa version counter entries (lines.Sdl sdl_counter area ssa ∷ others) = Some (record {
-  dds = record { version = version; counter = counter; state = Formatted; psa = psa; layout = layout; entries = entries };
-  sdl = record { version = version; counter = sdl_counter; dds_counter = counter; ssa = ssa; entries = entries_in others };
+  dds =
+      record { version = version; counter = counter; state = Formatted; psa = psa; layout = layout; entries = entries };
+  sdl =
+      record { version = version; counter = sdl_counter; dds_counter = counter; ssa = ssa; entries = entries_in others };
 })
 lists_behind layout psa version counter entries _ = None
 

@@ -41,7 +41,8 @@ certificate_words lines.Audit = codes "audit" ∷ []
 certificate_words (lines.Geometry zones scale psa layout) =
     codes "geometry" ∷ (decimal zones ∷ (decimal scale ∷ (decimal psa ∷ layout_words layout)))
 certificate_words (lines.Bare mark) = codes "bare" ∷ (decimal mark ∷ [])
-certificate_words (lines.Dds version counter area) = codes "dds" ∷ (version_word version ∷ (decimal counter ∷ (decimal area ∷ [])))
+certificate_words (lines.Dds version counter area) =
+    codes "dds" ∷ (version_word version ∷ (decimal counter ∷ (decimal area ∷ [])))
 certificate_words (lines.Pdl block kind) = codes "pdl" ∷ (decimal block ∷ (kind_word kind ∷ []))
 certificate_words (lines.Sdl counter area ssa) = codes "sdl" ∷ (decimal counter ∷ (decimal area ∷ (decimal ssa ∷ [])))
 certificate_words (lines.Pair defective replacement) = codes "pair" ∷ (decimal defective ∷ (decimal replacement ∷ []))

@@ -134,7 +134,8 @@ abbrev pub ThroughCauseOf : CacheShown → CacheShown → (lba n : ℕ) → Writ
 ThroughCauseOf old new lba n writes.Good = IsInRange old.drive lba n × WritesThrough old new lba n writes.Good
 ThroughCauseOf old new lba n writes.NotFormatted = ⊥
 ThroughCauseOf old new lba n (writes.Range known) = CacheOutOfRange old new lba n known
-ThroughCauseOf old new lba n (writes.Unread named block) = IsInRange old.drive lba n × WritesThrough old new lba n (writes.Unread named block)
+ThroughCauseOf old new lba n (writes.Unread named block) = IsInRange old.drive lba n
+    × WritesThrough old new lba n (writes.Unread named block)
 ThroughCauseOf old new lba n writes.Off = ⊥
 ThroughCauseOf old new lba n out = StopsWritingThrough old new lba n out
 
@@ -268,7 +269,8 @@ leaves_after_format (Some lists) now kinds.Rewrite out pending = leaves_after_re
 -- The cause of each answer of a format.
 abbrev pub CacheFormatCause : CacheShown → CacheShown → Kind → FormatOut → Type 0
 CacheFormatCause old new kind out = FormatCause old.drive new.drive kind out
-    × (new.pending ≡ leaves_after_format old.drive.lists new.drive.lists kind out old.pending) × (new.caches ≡ old.caches)
+    × (new.pending ≡ leaves_after_format old.drive.lists new.drive.lists kind out old.pending)
+    × (new.caches ≡ old.caches)
 
 -- what an expansion leaves pending: the blocks that the disc still has
 abbrev pub leaves_after_expansion : CacheShown → ExpandOut → List (ℕ × List ℕ) → List (ℕ × List ℕ)

@@ -22,7 +22,8 @@ use Rattle.model_cdb.specs.declared.commands.Command.TheVariants as commands
 -- come; another kind of disc information; a list of mode pages in the old layout, or to be saved; the code of no page; another
 -- structure than the two. (After INCITS MMC and SPC; which values are taken is this project's own.)
 abbrev pub has_refused_field : Operation → List ℕ → Bool
-has_refused_field operations.FormatUnit cdb = not (flag 1 4 cdb) || not (bits 1 0 3 cdb == 1) || not (bits 1 5 3 cdb == 0)
+has_refused_field operations.FormatUnit cdb =
+    not (flag 1 4 cdb) || not (bits 1 0 3 cdb == 1) || not (bits 1 5 3 cdb == 0)
 has_refused_field operations.Inquiry cdb = not (slice_index cdb 2 == 0)
 has_refused_field operations.ModeSense6 cdb = not (is_page_code (bits 2 0 6 cdb))
 has_refused_field operations.Read10 cdb = nat_lt TRANSFER_LIMIT (field 7 2 cdb)
@@ -115,7 +116,8 @@ meaning operations.Write10 cdb payload = commands.Write (field 2 4 cdb) (field 7
 meaning operations.WriteAndVerify10 cdb payload = commands.Write (field 2 4 cdb) (field 7 2 cdb) true
 meaning operations.Verify10 cdb payload = commands.Verify (field 2 4 cdb) (field 7 2 cdb)
 meaning operations.SynchronizeCache cdb payload = commands.Synchronize
-meaning operations.GetConfiguration cdb payload = commands.Configuration (bits 1 0 2 cdb) (field 2 2 cdb) (field 7 2 cdb)
+meaning operations.GetConfiguration cdb payload =
+    commands.Configuration (bits 1 0 2 cdb) (field 2 2 cdb) (field 7 2 cdb)
 meaning operations.GetEventStatusNotification cdb payload = commands.Events (flag 4 4 cdb) (field 7 2 cdb)
 meaning operations.ReadDiscInformation cdb payload = commands.DiscInformation (field 7 2 cdb)
 meaning operations.ModeSelect10 cdb payload = commands.ModeSelect

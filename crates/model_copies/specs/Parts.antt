@@ -42,8 +42,10 @@ module _ {V : Type 0} (two : V → Type 0) (first second : V → List ℕ → Ty
 
       -- each cell of the four copies of this value that can be read holds its part of the text
       pub record AreHeldBy (value : V) : Type 0 where
-        pub firsts : (area : ℕ) → IsArea area → (bytes : List ℕ) → cell_at cells (place area) ≡ Good bytes → first value bytes
-        pub seconds : two value → (area : ℕ) → IsArea area → (bytes : List ℕ) → cell_at cells (place' area) ≡ Good bytes → second value bytes
+        pub firsts : (area : ℕ) → IsArea area → (bytes : List ℕ) → cell_at cells (place area) ≡ Good bytes
+            → first value bytes
+        pub seconds : two value → (area : ℕ) → IsArea area → (bytes : List ℕ)
+            → cell_at cells (place' area) ≡ Good bytes → second value bytes
 
       -- some copy can be read that is of the version of this value
       pub record SomeAlike (value : V) : Type 0 where
@@ -55,13 +57,15 @@ module _ {V : Type 0} (two : V → Type 0) (first second : V → List ℕ → Ty
       -- Each text of the version of one of two values that is made of two cells that can be read, also of two areas, is that
       -- of one of them, while some copy of that version can be read.
       abbrev pub ArePartsBetween : V → V → Type 0
-      ArePartsBetween a b = (value : V) (x y : ℕ) → HasParts value x y → SomeAlike value → AreAlike value a ⊎ AreAlike value b
+      ArePartsBetween a b = (value : V) (x y : ℕ) → HasParts value x y → SomeAlike value
+          → AreAlike value a ⊎ AreAlike value b
           → (value ≡ a) ⊎ (value ≡ b)
 
     module _ (old new : List Cell) where
       -- what a stopped write of the value's text may leave of the cells of its copies; the others stay
       pub record MayLeaveParts (value : V) : Type 0 where
-        pub firsts : (area : ℕ) → IsArea area → MayHold first (cell_at old (place area)) value (cell_at new (place area))
+        pub firsts : (area : ℕ) → IsArea area
+            → MayHold first (cell_at old (place area)) value (cell_at new (place area))
         pub seconds : (area : ℕ) → IsArea area → (cell_at new (place' area) ≡ cell_at old (place' area))
             ⊎ (two value × MayHold second (cell_at old (place' area)) value (cell_at new (place' area)))
 
@@ -80,11 +84,13 @@ module _ {V : Type 0} (two : V → Type 0) (first second : V → List ℕ → Ty
         pub seconds : (area : ℕ) → IsArea area → (cell_at new (place' area) ≡ cell_at old (place' area))
             ⊎ (cell_at new (place' area) ≡ Torn)
             ⊎ (cell_at new (place' area) ≡ Dead)
-            ⊎ ((value : V) × (at : ℕ) × two value × HasWhole old value at × Holds second (cell_at new (place' area)) value)
+            ⊎ ((value : V) × (at : ℕ) × two value × HasWhole old value at
+            × Holds second (cell_at new (place' area)) value)
 
 -- a text of this secondary list is made of the first cell of one area and the second of another
 abbrev pub HasSdlParts : Shape → List Cell → Sdl → ℕ → ℕ → Type 0
-HasSdlParts shape cells value a b = HasParts IsTwo IsSdlText IsSdlSecond (sdl_block shape) (sdl_second_block shape) cells value a b
+HasSdlParts shape cells value a b =
+    HasParts IsTwo IsSdlText IsSdlSecond (sdl_block shape) (sdl_second_block shape) cells value a b
 
 -- the disc's copy of its secondary list in this area is the text of this value
 abbrev pub HasSdlCopy : Shape → List Cell → Sdl → ℕ → Type 0
@@ -92,15 +98,18 @@ HasSdlCopy shape cells value area = HasSdlParts shape cells value area area
 
 -- each cell of the four copies is exactly its part of the text of this secondary list, or dead
 abbrev pub SdlIsExact : Shape → List Cell → Sdl → Type 0
-SdlIsExact shape cells value = AreExact IsTwo IsSdlText IsSdlSecond (sdl_block shape) (sdl_second_block shape) cells value
+SdlIsExact shape cells value =
+    AreExact IsTwo IsSdlText IsSdlSecond (sdl_block shape) (sdl_second_block shape) cells value
 
 -- this secondary list has no copy left
 abbrev pub SdlIsLost : Shape → List Cell → Sdl → Type 0
-SdlIsLost shape cells value = LosesAll IsTwo IsSdlText IsSdlSecond (sdl_block shape) (sdl_second_block shape) cells value
+SdlIsLost shape cells value =
+    LosesAll IsTwo IsSdlText IsSdlSecond (sdl_block shape) (sdl_second_block shape) cells value
 
 -- each text of a version of these secondary lists is one of theirs
 abbrev pub SdlIsBetween : Shape → List Cell → Sdl → Sdl → Type 0
-SdlIsBetween shape cells a b = ArePartsBetween IsTwo IsSdlText IsSdlSecond (sdl_block shape) (sdl_second_block shape) cells a b
+SdlIsBetween shape cells a b =
+    ArePartsBetween IsTwo IsSdlText IsSdlSecond (sdl_block shape) (sdl_second_block shape) cells a b
 
 -- the first cell of a copy names this counter of a structure
 abbrev pub Names : Cell → ℕ → Type 0
@@ -111,7 +120,8 @@ Names Dead counter = ⊥
 
 -- no first cell of a secondary list names a greater counter of a structure than this
 abbrev pub NamesWithin : Shape → List Cell → ℕ → Type 0
-NamesWithin shape cells most = (counter area : ℕ) → IsArea area → Names (cell_at cells (sdl_block shape area)) counter → counter ≤ most
+NamesWithin shape cells most = (counter area : ℕ) → IsArea area
+    → Names (cell_at cells (sdl_block shape area)) counter → counter ≤ most
 
 -- The secondary list is settled: each cell of its four copies is exactly its part of the text or dead; or it has no copy
 -- left, and no first cell names a greater counter of a structure. It is said so that it has one proof at most.
@@ -168,13 +178,16 @@ GoesOn Dead = ⊥
 -- how many of the first cells of the first k areas go on
 abbrev pub CountMores : Shape → List Cell → ℕ → ℕ → Type 0
 CountMores shape cells zero count = count ≡ 0
-CountMores shape cells (suc k) count = (GoesOn (cell_at cells (sdl_block shape (suc k))) × ((before : ℕ) × (count ≡ before + 1) × CountMores shape cells k before))
+CountMores shape cells (suc k) count = (GoesOn (cell_at cells (sdl_block shape (suc k)))
+    × ((before : ℕ) × (count ≡ before + 1) × CountMores shape cells k before))
     ⊎ (¬ GoesOn (cell_at cells (sdl_block shape (suc k))) × CountMores shape cells k count)
 
 -- how many copies of the first n areas can be read whole, where a test says which cells are exactly their parts
-module _ {V : Type 0} (two : V → Type 0) (first second : V → List ℕ → Type 0) (place place' : ℕ → ℕ) (cells : List Cell) (value : V) where
+module _ {V : Type 0} (two : V → Type 0) (first second : V → List ℕ → Type 0) (place place' : ℕ → ℕ)
+    (cells : List Cell) (value : V) where
   -- how many of the copies of the first k areas are exactly the text
   abbrev pub HaveCopies : ℕ → ℕ → Type 0
   HaveCopies zero count = count ≡ 0
-  HaveCopies (suc k) count = (HasWhole two first second place place' cells value (suc k) × ((before : ℕ) × (count ≡ before + 1) × HaveCopies k before))
+  HaveCopies (suc k) count = (HasWhole two first second place place' cells value (suc k)
+      × ((before : ℕ) × (count ≡ before + 1) × HaveCopies k before))
       ⊎ (¬ HasWhole two first second place place' cells value (suc k) × HaveCopies k count)

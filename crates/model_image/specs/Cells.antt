@@ -13,7 +13,8 @@ data_offset total block = 16 + total + 32768 * block
 
 -- the cell that a state byte and a block's data give
 abbrev pub cell_of : ℕ → List ℕ → Cell
-cell_of state block_data = if state == 0 then Blank else (if state == 1 then Good block_data else (if state == 3 then Dead else Torn))
+cell_of state block_data =
+    if state == 0 then Blank else (if state == 1 then Good block_data else (if state == 3 then Dead else Torn))
 
 -- the data of a block in an image of n blocks
 abbrev pub data_in : ℕ → List ℕ → ℕ → List ℕ

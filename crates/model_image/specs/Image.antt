@@ -7,7 +7,8 @@ use Rattle.model_image.specs.Cells.{image_len, cells_of}
 
 -- The header of an image: a text, and the three numbers of its geometry in two bytes each. (This project's own.)
 abbrev pub header_of : Shape → List ℕ
-header_of shape = codes "DVDRAM01" ++ big_bytes 2 shape.zones ++ big_bytes 2 shape.scale ++ big_bytes 2 shape.psa ++ 0 ∷ 0 ∷ []
+header_of shape =
+    codes "DVDRAM01" ++ big_bytes 2 shape.zones ++ big_bytes 2 shape.scale ++ big_bytes 2 shape.psa ++ 0 ∷ 0 ∷ []
 
 -- The bytes begin with the header of a lawful geometry. (This project's own.)
 pub record HasHeader (shape : Shape) (bytes : List ℕ) : Type 0 where

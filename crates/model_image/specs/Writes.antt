@@ -21,7 +21,8 @@ with_state block state bytes = put_at (state_offset block) (state ∷ []) bytes
 
 -- the image with these data in a block and the state byte of a good one, and no other byte changed
 abbrev pub with_block : ℕ → ℕ → List ℕ → List ℕ → List ℕ
-with_block total block block_data bytes = with_state block good_state (put_at (data_offset total block) block_data bytes)
+with_block total block block_data bytes =
+    with_state block good_state (put_at (data_offset total block) block_data bytes)
 
 -- the image after the arms of a used block counted down: where one ran out, the block's state byte is that of a dead one
 abbrev pub worn_bytes : Bool → ℕ → List ℕ → List ℕ
@@ -35,7 +36,8 @@ bytes_by fates.Torn total block block_data bytes = with_state block torn_state b
 
 -- the image after a write of these data to a block, which ends by this fate: under a dead block all bytes stay
 abbrev pub bytes_left : Fate → ℕ → ℕ → List ℕ → List ℕ → List ℕ
-bytes_left fate total block block_data bytes = if slice_index bytes (state_offset block) == dead_state then bytes else bytes_by fate total block block_data bytes
+bytes_left fate total block block_data bytes =
+    if slice_index bytes (state_offset block) == dead_state then bytes else bytes_by fate total block block_data bytes
 
 -- Each byte of a block's data is as before or the new one, its state byte is as before or that of a torn or a good
 -- block, and no other byte of the image differs.

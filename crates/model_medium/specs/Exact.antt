@@ -60,7 +60,8 @@ abbrev pub WriteExactly : Machine → Machine → ℕ → List ℕ → WriteEnd 
 WriteExactly old new block bytes writes.Done = WritesCellExactly old new block bytes
 WriteExactly old new block bytes writes.Cut = IsCutExactly old (after_write block bytes old) new
 WriteExactly old new block bytes writes.Off = IsOffExactly old new
-WriteExactly old new block bytes writes.Failed = FailsInWrite old.world new.world block bytes × HasCountedDown old new block
+WriteExactly old new block bytes writes.Failed = FailsInWrite old.world new.world block bytes
+    × HasCountedDown old new block
 
 -- What is done to a medium, with its answer: a block is read, where these are the bytes behind `into` before and
 -- after, or written with these bytes, or the power is turned on or off.

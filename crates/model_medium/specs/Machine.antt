@@ -30,7 +30,8 @@ runs_out block arm = (arm.block == block) && nat_le arm.left 1
 
 -- what a use of the block leaves of an arm: one of this block counts down by one, and is dropped where it reaches 0
 abbrev pub worn_down : ℕ → WornBlock → Option WornBlock
-worn_down block arm = if runs_out block arm then None else Some (if arm.block == block then record arm { left = arm.left - 1 } else arm)
+worn_down block arm =
+    if runs_out block arm then None else Some (if arm.block == block then record arm { left = arm.left - 1 } else arm)
 
 -- the arms after a use of the block
 abbrev pub arms_after : ℕ → List WornBlock → List WornBlock
@@ -58,7 +59,8 @@ cut_after (Some armed) = if nat_le armed.left 1 then None else Some (record arme
 -- (This project's own.)
 abbrev pub begun : ℕ → Machine → Machine
 begun block machine = record {
-  world = record machine.world { cells = cells_worn block machine.arms machine.world.cells; uses = counted machine.world.uses 1 };
+  world =
+      record machine.world { cells = cells_worn block machine.arms machine.world.cells; uses = counted machine.world.uses 1 };
   arms = arms_after block machine.arms;
   cut = cut_after machine.cut;
 }
@@ -69,14 +71,17 @@ cut_off machine = record machine { world = record machine.world { power = false;
 
 -- the cell of a block is changed
 abbrev pub with_cell : ℕ → (Cell → Cell) → Machine → Machine
-with_cell block change machine = record machine { world = record machine.world { cells = set machine.world.cells block (change (cell_at machine.world.cells block)) } }
+with_cell block change machine =
+    record machine { world = record machine.world { cells = set machine.world.cells block (change (cell_at machine.world.cells block)) } }
 
 -- A controllable medium after a read of a block with the power on. (This project's own.)
 abbrev pub after_read : ℕ → Machine → Machine
-after_read block machine = option_map_or (λ fate. cut_off (begun block machine)) (fate_due machine.cut) (begun block machine)
+after_read block machine =
+    option_map_or (λ fate. cut_off (begun block machine)) (fate_due machine.cut) (begun block machine)
 
 -- A controllable medium after a write of these bytes to a block with the power on: its cell is good with the bytes,
 -- or what the fate of the cut leaves of it, and a dead cell stays dead. (This project's own.)
 abbrev pub after_write : ℕ → List ℕ → Machine → Machine
-after_write block bytes machine = option_map_or (λ fate. cut_off (with_cell block (cut_short fate bytes) (begun block machine))) (fate_due machine.cut)
+after_write block bytes machine =
+    option_map_or (λ fate. cut_off (with_cell block (cut_short fate bytes) (begun block machine))) (fate_due machine.cut)
     (with_cell block (written bytes) (begun block machine))

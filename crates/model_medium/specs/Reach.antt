@@ -30,7 +30,8 @@ pub record CutCame (old new : World) : Type 0 where
   pub torn : ℕ
   pub others_stay_good : (block : ℕ) → block ≢ torn → IsGood (cell_at old.cells block)
       → IsGoodOrDead (cell_at new.cells block)
-  pub one_torn : IsGood (cell_at old.cells torn) → IsGoodOrDead (cell_at new.cells torn) ⊎ (cell_at new.cells torn ≡ Torn)
+  pub one_torn : IsGood (cell_at old.cells torn)
+      → IsGoodOrDead (cell_at new.cells torn) ⊎ (cell_at new.cells torn ≡ Torn)
 
 -- What can follow on any medium by k uses, none of which failed. While the power is off nothing happens.
 pub record Follows (old new : World) (k : ℕ) : Type 0 where

@@ -83,7 +83,8 @@ pages_by control caches locked wanted =
 -- header of MODE SENSE(6), of four bytes, and two in that of MODE SENSE(10), of eight. The others are zero, since there are no
 -- block descriptors. (After INCITS SPC.)
 abbrev pub mode_header : (short : Bool) (bytes : ℕ) → List ℕ
-mode_header short bytes = if short then big_bytes 1 (3 + bytes) ++ replicate 3 0 else big_bytes 2 (6 + bytes) ++ replicate 6 0
+mode_header short bytes =
+    if short then big_bytes 1 (3 + bytes) ++ replicate 3 0 else big_bytes 2 (6 + bytes) ++ replicate 6 0
 
 -- the data of MODE SENSE: the header, and the pages (after INCITS SPC)
 abbrev pub mode_data : (short : Bool) (control : ℕ) (caches locked : Bool) (wanted : ℕ) → List ℕ

@@ -68,7 +68,8 @@ list_answer payload =
 
 -- An option with more data than are taken: EXPORT_NAME has no reply that says so, and ends the session.
 abbrev pub long_answer : (number : ℕ) → OptionAnswer
-long_answer number = if number == EXPORT_NAME then record { bytes = []; next = Violation } else answered number TOO_BIG []
+long_answer number =
+    if number == EXPORT_NAME then record { bytes = []; next = Violation } else answered number TOO_BIG []
 
 -- An option whose data are not too long.
 abbrev pub short_answer : Export → (zeros : Bool) → (number : ℕ) → List ℕ → OptionAnswer

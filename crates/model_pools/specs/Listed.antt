@@ -17,4 +17,5 @@ replacements entries = filter_map (λ (entry : SdlEntry). entry.replacement) ent
 
 -- what replaces a defective block, where an entry says so (after ECMA-330's linear replacement)
 abbrev pub replacement_of : List SdlEntry → ℕ → Option ℕ
-replacement_of entries block = option_and_then (λ (entry : SdlEntry). entry.replacement) (find (λ (entry : SdlEntry). entry.defective == block) entries)
+replacement_of entries block =
+    option_and_then (λ (entry : SdlEntry). entry.replacement) (find (λ (entry : SdlEntry). entry.defective == block) entries)

@@ -43,7 +43,8 @@ pub record StepsWithout (old new : CacheShown) (s : Scrubber) (end : StepEnd) (t
 -- What a step does, by its end. NotFormatted and Off come exactly where the power is on and the disc is not formatted, and where
 -- the power is off.
 abbrev pub StepRule : CacheShown → CacheShown → Scrubber → StepEnd → Scrubber → Type 0
-StepRule old new s ends.NotFormatted t = IsOn old.drive × ¬ IsFormatted old.drive × StepsWithout old new s ends.NotFormatted t
+StepRule old new s ends.NotFormatted t = IsOn old.drive × ¬ IsFormatted old.drive
+    × StepsWithout old new s ends.NotFormatted t
 StepRule old new s ends.Off t = ¬ IsOn old.drive × StepsWithout old new s ends.Off t
 StepRule old new s end t = StepsOn old new s end t
 

@@ -41,7 +41,8 @@ met_unread s = record { next = s.next + 1; found = with_found s.next s.found }
 -- What a step on a formatted disc of n blocks leaves, by its end.
 abbrev pub LeavesOn : (count : ℕ) → Scrubber → StepEnd → Scrubber → Type 0
 LeavesOn count s (ends.Readable i) t = (i ≡ (begun_on count s).next) × (i < count) × (t ≡ read_well (begun_on count s))
-LeavesOn count s (ends.Unreadable i) t = (i ≡ (begun_on count s).next) × (i < count) × (t ≡ met_unread (begun_on count s))
+LeavesOn count s (ends.Unreadable i) t = (i ≡ (begun_on count s).next) × (i < count)
+    × (t ≡ met_unread (begun_on count s))
 LeavesOn count s ends.NotFormatted t = ⊥
 LeavesOn count s ends.Cut t = t ≡ begun_on count s
 LeavesOn count s ends.Off t = ⊥

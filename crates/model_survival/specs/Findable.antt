@@ -39,8 +39,10 @@ pub record HaveTwoCopies (shape : Shape) (cells : List Cell) (version : Version)
 -- The copies of the secondary list part at this area: those before it that have no dead cell hold the newer list, and those
 -- after it the older one. Nothing is said of its own copy: that one a cut may have spoiled.
 pub record PartsAt (shape : Shape) (cells : List Cell) (older newer : Sdl) (at : ℕ) : Type 0 where
-  pub before : (area : ℕ) → IsArea area → area < at → SdlLives shape cells newer.version area → HasSdlCopy shape cells newer area
-  pub after : (area : ℕ) → IsArea area → at < area → SdlLives shape cells older.version area → HasSdlCopy shape cells older area
+  pub before : (area : ℕ) → IsArea area → area < at → SdlLives shape cells newer.version area
+      → HasSdlCopy shape cells newer area
+  pub after : (area : ℕ) → IsArea area → at < area → SdlLives shape cells older.version area
+      → HasSdlCopy shape cells older area
 
 -- The lists can be found: the structure is settled, and says Formatted; the copies of the secondary list part at some area, and
 -- what is made of their cells is the older or the newer one; both are valid under the structure, and are one, or the newer one

@@ -63,7 +63,8 @@ hindrances host formatted command =
 
 -- The same as a relation, where a list of mode pages is looked at too. It is 5/26/00 where it is not taken.
 abbrev pub IsAllowed : Host → (formatted : Bool) → (payload : List ℕ) → Command → Result Command Sense → Type 0
-IsAllowed host formatted payload commands.ModeSelect (Ok command) = (command ≡ commands.ModeSelect) × IsTakenList payload
+IsAllowed host formatted payload commands.ModeSelect (Ok command) = (command ≡ commands.ModeSelect)
+    × IsTakenList payload
 IsAllowed host formatted payload commands.ModeSelect (Err why) = (why ≡ sense 0x5 0x26 0x00) × ¬ IsTakenList payload
 IsAllowed host formatted payload asked_for result =
     result ≡ unless (find (λ r. r.applies) (hindrances host formatted asked_for)) asked_for

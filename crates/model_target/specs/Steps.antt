@@ -125,7 +125,8 @@ spares_told shown = spares_reply (option_map_or (free_primary_count shown.shape)
 abbrev pub host_after : Host → Option Operation → Result Command Sense → Answer → Host
 host_after host operation (Err why) answer =
     with_kept_sense (record host { attention = attention_after host operation }) answer
-host_after host operation (Ok asked) answer = with_kept_sense (if is_good answer then done_by asked host else host) answer
+host_after host operation (Ok asked) answer =
+    with_kept_sense (if is_good answer then done_by asked host else host) answer
 
 module _ (old new : CacheShown) (lba n : ℕ) (bytes : List ℕ) where
   -- Why a write is answered so: with FUA it goes through the cache, and else into it where that is on and few blocks are covered.
@@ -173,7 +174,8 @@ module _ (old new : CacheShown) (before after : Contents → Type 0) where
 
   -- an expansion that leaves n sectors was answered so
   abbrev pub IsExpanded : (sectors : ℕ) → Answer → (data_in : List ℕ) → Type 0
-  IsExpanded sectors = Does ExpandOut (CacheExpandCause old new sectors) (λ s out. ExpandContents after s sectors out) expand_answer
+  IsExpanded sectors =
+      Does ExpandOut (CacheExpandCause old new sectors) (λ s out. ExpandContents after s sectors out) expand_answer
 
   -- a verification of n sectors was answered so
   abbrev pub IsVerified : (lba n : ℕ) → Answer → (data_in : List ℕ) → Type 0
@@ -285,7 +287,8 @@ module _ (old new : CacheShown) (before after : Contents → Type 0) where
   -- One command: what the drive shows and stands for, the four things, the answer and the data.
   abbrev pub IsStep : (host later : Host) (cdb payload : List ℕ) → Answer → List ℕ → Type 0
   IsStep host later cdb payload answer data_in =
-      (¬ IsOn old.drive × IsOffFor host later answer data_in) ⊎ (IsOn old.drive × IsExecuted host later cdb payload answer data_in)
+      (¬ IsOn old.drive × IsOffFor host later answer data_in)
+      ⊎ (IsOn old.drive × IsExecuted host later cdb payload answer data_in)
 
 -- What a command leaves of the count of faults of what the medium lies on: one more where it answers Fault, and the same
 -- with any other answer.

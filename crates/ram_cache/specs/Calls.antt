@@ -36,7 +36,8 @@ WritesOn old new into_cache lba n bytes out =
     MatchBool (goes_in into_cache lba n) (CachedCauseOf old new lba n bytes out) (ThroughCauseOf old new lba n out)
 
 -- what it makes of what the drive stands for
-abbrev pub WritesContents : CacheShown → CacheShown → (Contents → Type 0) → Contents → Bool → (lba n : ℕ) → List ℕ → WriteOut → Type 0
+abbrev pub WritesContents : CacheShown → CacheShown → (Contents → Type 0) → Contents → Bool → (lba n : ℕ)
+    → List ℕ → WriteOut → Type 0
 WritesContents old new after s into_cache lba n bytes out =
     MatchBool (goes_in into_cache lba n) (CachedContents after s lba n bytes out) (ThroughContents old new after s lba n bytes out)
 

@@ -33,7 +33,8 @@ pub record IsReady (shown : CacheShown) (sectors : ℕ) : Type 0 where
 -- how a call begins, by what it finds of the disc
 abbrev pub EnterRule : CacheShown → CacheShown → Entered → Type 0
 EnterRule old new entered.Off = ¬ IsOn old.drive × (new ≡ old)
-EnterRule old new entered.NotFormatted = IsOn old.drive × ¬ IsFormatted old.drive × (new ≡ dropped old) × (new.pending ≡ [])
+EnterRule old new entered.NotFormatted = IsOn old.drive × ¬ IsFormatted old.drive × (new ≡ dropped old)
+    × (new.pending ≡ [])
 EnterRule old new (entered.Formatted sectors) = IsReady new sectors × (new ≡ dropped old)
 
 -- what is pending after the write of the block at this index: a refused one stands behind the others
@@ -45,7 +46,8 @@ left_at _ k pending = remove pending k ++ pending_at pending k ∷ []
 
 -- The pending block at this index was written to the disc, and it went so.
 abbrev pub FlushesAt : CacheShown → CacheShown → ℕ → WriteOut → Type 0
-FlushesAt old new k out = (WriteCause old.drive new.drive (16 * (pending_at old.pending k).0) 16 out × LeavesSound old.drive new.drive)
+FlushesAt old new k out = (WriteCause old.drive new.drive (16 * (pending_at old.pending k).0) 16 out
+    × LeavesSound old.drive new.drive)
     × (new.pending ≡ left_at out k old.pending) × (new.caches ≡ old.caches)
 
 -- What the write of pending blocks makes of what the drive stands for: it shows the same.
@@ -78,11 +80,16 @@ pub record LacksSome (old new : CacheShown) (among : Bool) (first count enough :
 
 -- What became of the pending blocks that are due, of which `enough` are to leave.
 abbrev pub DrainsDue : CacheShown → CacheShown → (among : Bool) → (first count enough : ℕ) → WriteOut → Type 0
-DrainsDue old new among first count enough writes.Good = (told : Option WriteOut) × DrainedDue old new among first count enough 0 told
-DrainsDue old new among first count enough (writes.NoSpare named) = LacksSome old new among first count enough (writes.NoSpare named)
-DrainsDue old new among first count enough (writes.NoUpdate counter) = LacksSome old new among first count enough (writes.NoUpdate counter)
-DrainsDue old new among first count enough writes.Cut = StopsTrying old new (due_of among first count old) enough writes.Cut
-DrainsDue old new among first count enough writes.Fault = StopsTrying old new (due_of among first count old) enough writes.Fault
+DrainsDue old new among first count enough writes.Good = (told : Option WriteOut)
+    × DrainedDue old new among first count enough 0 told
+DrainsDue old new among first count enough (writes.NoSpare named) =
+    LacksSome old new among first count enough (writes.NoSpare named)
+DrainsDue old new among first count enough (writes.NoUpdate counter) =
+    LacksSome old new among first count enough (writes.NoUpdate counter)
+DrainsDue old new among first count enough writes.Cut =
+    StopsTrying old new (due_of among first count old) enough writes.Cut
+DrainsDue old new among first count enough writes.Fault =
+    StopsTrying old new (due_of among first count old) enough writes.Fault
 DrainsDue old new among first count enough _ = ⊥
 
 -- the first of the refusals that were met

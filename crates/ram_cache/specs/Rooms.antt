@@ -30,5 +30,6 @@ due_in false first count pending = filter (λ i. not (is_among first count i)) (
 abbrev pub FirstOf : List (ℕ × List ℕ) → (among : Bool) → (first count : ℕ) → Option ℕ → Type 0
 FirstOf pending among first count None =
     (j : ℕ) → j < length pending → is_among first count ((pending_at pending j).0) ≡ (if among then false else true)
-FirstOf pending among first count (Some k) = (k < length pending) × (is_among first count ((pending_at pending k).0) ≡ among)
+FirstOf pending among first count (Some k) = (k < length pending)
+    × (is_among first count ((pending_at pending k).0) ≡ among)
     × ((j : ℕ) → j < k → is_among first count ((pending_at pending j).0) ≡ (if among then false else true))

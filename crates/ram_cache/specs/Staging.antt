@@ -15,10 +15,12 @@ use Rattle.model_cache.specs.Chains.{ReadsDisc, leaves_pending}
 use Rattle.model_cache.specs.Causes.{ReadsRest, ReadsRests, EndsRest, ComesIn, fresh_blocks}
 
 -- A block that is not pending is the next of those to come, with the bytes of the request over some whole ones.
-abbrev pub IsNextStaged : (lba n : ℕ) → List ℕ → (block : ℕ) → Option (List ℕ) → (was now : List (ℕ × List ℕ)) → (staged more : ℕ) → Type 0
+abbrev pub IsNextStaged : (lba n : ℕ) → List ℕ → (block : ℕ) → Option (List ℕ) → (was now : List (ℕ × List ℕ))
+    → (staged more : ℕ) → Type 0
 IsNextStaged lba n bytes block (Some held) was now staged more = (now ≡ was) × (more ≡ staged)
 IsNextStaged lba n bytes block None was now staged more =
-    (rest : List ℕ) × (length rest ≡ 32768) × (now ≡ was ++ (block, merged_in lba n bytes block rest) ∷ []) × (more ≡ staged + 1)
+    (rest : List ℕ) × (length rest ≡ 32768) × (now ≡ was ++ (block, merged_in lba n bytes block rest) ∷ [])
+    × (more ≡ staged + 1)
 
 -- The block is pending, or is one of those to come.
 pub record IsStaged (old new : CacheShown) (lba n block : ℕ) (bytes : List ℕ) (was now : List (ℕ × List ℕ)) (staged more : ℕ) : Type 0 where
@@ -36,14 +38,18 @@ pub record LacksRestOf (old new : CacheShown) (lba n block : ℕ) (out : WriteOu
   pub same_mode : new.caches ≡ old.caches
 
 -- how a block is made ready for the cache
-abbrev pub StagesNext : CacheShown → CacheShown → (lba n block : ℕ) → List ℕ → (was : List (ℕ × List ℕ)) → (now : ℕ → List (ℕ × List ℕ)) → (staged : ℕ)
+abbrev pub StagesNext : CacheShown → CacheShown → (lba n block : ℕ) → List ℕ → (was : List (ℕ × List ℕ))
+    → (now : ℕ → List (ℕ × List ℕ)) → (staged : ℕ)
     → Result ℕ WriteOut → Type 0
-StagesNext old new lba n block bytes was now staged (Ok more) = IsStaged old new lba n block bytes was (now more) staged more
-StagesNext old new lba n block bytes was now staged (Err out) = (bytes_at block old.pending ≡ None) × LacksRestOf old new lba n block out
+StagesNext old new lba n block bytes was now staged (Ok more) =
+    IsStaged old new lba n block bytes was (now more) staged more
+StagesNext old new lba n block bytes was now staged (Err out) = (bytes_at block old.pending ≡ None)
+    × LacksRestOf old new lba n block out
 
 -- how the rest of a block is read, where it is needed
 abbrev pub RestOf : CacheShown → CacheShown → (lba n block : ℕ) → Result (Unit {0}) WriteOut → Type 0
-RestOf old new lba n block (Ok done) = ReadsRest old new block (is_partly lba n block) None × (new.pending ≡ old.pending)
+RestOf old new lba n block (Ok done) = ReadsRest old new block (is_partly lba n block) None
+    × (new.pending ≡ old.pending)
 RestOf old new lba n block (Err out) = LacksRestOf old new lba n block out
 
 -- What a write that could not read a rest leaves: nothing new.
@@ -53,12 +59,15 @@ StoppedContents after v writes.Fault = after (MayHave (v ∷ []))
 StoppedContents after v _ = after (Has v)
 
 -- What that makes of a disc with these values: nothing new; and the room has the block's bytes, where they are needed.
-abbrev pub RestContents : (Contents → Type 0) → Values → (lba n block : ℕ) → (room : List ℕ) → Result (Unit {0}) WriteOut → Type 0
-RestContents after v lba n block room (Ok done) = after (Has v) × (is_partly lba n block ≡ true → room ≡ block_of v.disc block)
+abbrev pub RestContents : (Contents → Type 0) → Values → (lba n block : ℕ) → (room : List ℕ)
+    → Result (Unit {0}) WriteOut → Type 0
+RestContents after v lba n block room (Ok done) = after (Has v)
+    × (is_partly lba n block ≡ true → room ≡ block_of v.disc block)
 RestContents after v lba n block room (Err out) = StoppedContents after v out
 
 -- What that makes of a disc with these values: nothing new; and the block has its bytes with those of the request over them.
-abbrev pub StagedContents : (Contents → Type 0) → Values → (lba n block : ℕ) → List ℕ → Option (List ℕ) → (was : List (ℕ × List ℕ)) → (now : ℕ → List (ℕ × List ℕ)) → Result ℕ WriteOut → Type 0
+abbrev pub StagedContents : (Contents → Type 0) → Values → (lba n block : ℕ) → List ℕ → Option (List ℕ)
+    → (was : List (ℕ × List ℕ)) → (now : ℕ → List (ℕ × List ℕ)) → Result ℕ WriteOut → Type 0
 StagedContents after v lba n block bytes (Some held) was now (Ok more) = after (Has v)
 StagedContents after v lba n block bytes None was now (Ok more) =
     after (Has v) × (now more ≡ was ++ (block, merged_in lba n bytes block (block_of v.disc block)) ∷ [])
@@ -77,9 +86,11 @@ pub record StagedSoFar (start now : CacheShown) (lba n k : ℕ) (bytes : List �
   pub numbers : numbers_in list ≡ fresh_blocks start.pending (block_with lba) k
   pub many : length list ≡ staged
   pub apart : AreApart (start.pending ++ list)
-  pub have : (i : ℕ) (held : List ℕ) → Contains list (i, held) → (rest : List ℕ) × (length rest ≡ 32768) × (held ≡ merged_in lba n bytes i rest)
+  pub have : (i : ℕ) (held : List ℕ) → Contains list (i, held)
+      → (rest : List ℕ) × (length rest ≡ 32768) × (held ≡ merged_in lba n bytes i rest)
   pub gives : (v : Values) → before (Has v)
-      → after (Has v) × ((i : ℕ) (held : List ℕ) → Contains list (i, held) → held ≡ merged_in lba n bytes i (block_of v.disc i))
+      → after (Has v) × ((i : ℕ) (held : List ℕ) → Contains list (i, held)
+      → held ≡ merged_in lba n bytes i (block_of v.disc i))
 
 -- all covered blocks came into the cache
 pub record ComesAll (old new : CacheShown) (lba n : ℕ) (bytes : List ℕ) : Type 0 where
@@ -111,7 +122,8 @@ rest_out reads.Fault lba = Err writes.Fault
 rest_out _ lba = Err writes.Off
 
 -- How all blocks that are not pending are made ones to come, and what that makes of what the drive stands for.
-abbrev pub StagesAll : CacheShown → CacheShown → (lba n : ℕ) → List ℕ → (list : ℕ → List (ℕ × List ℕ)) → (before after : Contents → Type 0) → Result ℕ WriteOut → Type 0
+abbrev pub StagesAll : CacheShown → CacheShown → (lba n : ℕ) → List ℕ → (list : ℕ → List (ℕ × List ℕ))
+    → (before after : Contents → Type 0) → Result ℕ WriteOut → Type 0
 StagesAll old new lba n bytes list before after (Ok staged) =
     StagedSoFar old new lba n (blocks_covered lba n) bytes (list staged) staged before after
 StagesAll old new lba n bytes list before after (Err out) =
@@ -119,4 +131,5 @@ StagesAll old new lba n bytes list before after (Err out) =
 
 -- there is room for the covered blocks that are not pending
 abbrev pub HasRoomForBlocks : List (ℕ × List ℕ) → (lba n : ℕ) → Type 0
-HasRoomForBlocks pending lba n = length pending + length (fresh_blocks pending (block_with lba) (blocks_covered lba n)) ≤ 32
+HasRoomForBlocks pending lba n =
+    length pending + length (fresh_blocks pending (block_with lba) (blocks_covered lba n)) ≤ 32

@@ -22,7 +22,8 @@ HasGoodBlock operation cdb = HasGoodFields operation cdb × IsFalse (asks_for_sa
 
 -- the command block is taken, and the data have another length
 abbrev pub HasBadLength : Operation → (cdb payload : List ℕ) → Type 0
-HasBadLength operation cdb payload = HasGoodBlock operation cdb × IsTrue (has_wrong_length operation cdb (length payload))
+HasBadLength operation cdb payload = HasGoodBlock operation cdb
+    × IsTrue (has_wrong_length operation cdb (length payload))
 
 -- the command block and the length of the data are taken
 abbrev pub HasGoodLength : Operation → (cdb payload : List ℕ) → Type 0

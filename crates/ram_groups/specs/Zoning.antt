@@ -28,7 +28,8 @@ zone_table_in inside = record {
 
 -- the blocks of a zone: those from its place on to before that of the next
 abbrev pub cut_out : (blocks starts : List ℕ) → (zone : ℕ) → List ℕ
-cut_out blocks starts zone = take (slice_index starts (zone + 1) - slice_index starts zone) (drop (slice_index starts zone) blocks)
+cut_out blocks starts zone =
+    take (slice_index starts (zone + 1) - slice_index starts zone) (drop (slice_index starts zone) blocks)
 
 -- the pool of a zone: the first of its blocks are logical blocks, and the others its spares
 abbrev pub zone_pool : Shape → (blocks starts : List ℕ) → (zone : ℕ) → Pool

@@ -10,5 +10,6 @@ abbrev pub HasRoleIn : (blocks : List ℕ) → List Pool → (block : ℕ) → R
 HasRoleIn blocks pools block (roles.Logical i) = slice_get (logical_in pools) i ≡ Some block
 HasRoleIn blocks pools block roles.Primary = Contains (spares_in pools) block
 HasRoleIn blocks pools block roles.Supplementary = Contains (spares_in pools) block
-HasRoleIn blocks pools block roles.Slipped = Contains blocks block × ¬ Contains (logical_in pools ++ spares_in pools) block
+HasRoleIn blocks pools block roles.Slipped = Contains blocks block
+    × ¬ Contains (logical_in pools ++ spares_in pools) block
 HasRoleIn blocks pools block roles.Outside = ¬ Contains blocks block

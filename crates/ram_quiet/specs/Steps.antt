@@ -80,7 +80,8 @@ module _ {M : Type 0} (world : M → World) (reaches : M → M → Span → Type
         ((end : FailEnd) × FailRule (total shape) (machine old) (machine new) block end) × (room' ≡ room)
     StepRule old room (steps.Wear block n) new room' =
         ((end : Arm) × WearRule (total shape) (machine old) (machine new) (record { block = block; left = n }) end) × (room' ≡ room)
-    StepRule old room (steps.Cut n fate) new room' = (machine new ≡ with_armed_cut n fate (machine old)) × (room' ≡ room)
+    StepRule old room (steps.Cut n fate) new room' = (machine new ≡ with_armed_cut n fate (machine old))
+        × (room' ≡ room)
 
     -- After n of the steps: the last of them leads here from where the ones before it have led.
     abbrev pub Follows : List Quiet → ℕ → M → List ℕ → M → List ℕ → Type 0

@@ -25,5 +25,6 @@ pub kind-prop : (kind : LayoutKind) (layout : AnyLayout) → IsProp (IsOfKind ki
 kind-prop kind (layouts.Slip table) = Prim.hlevel props
 kind-prop kind (layouts.Zones table) = Prim.hlevel props
 
-pub laid_out-prop : (shape : Shape) (lists : Lists) (layout : AnyLayout) (cursors : List ℕ) → IsProp (IsLaidOut shape lists layout cursors)
+pub laid_out-prop : (shape : Shape) (lists : Lists) (layout : AnyLayout) (cursors : List ℕ)
+    → IsProp (IsLaidOut shape lists layout cursors)
 laid_out-prop shape lists layout cursors = Prim.hlevel (props, kind-prop)

@@ -75,7 +75,8 @@ sizes_asked shape asked outcome sizes = sizes
 
 -- the same of a `power` line: where it tells a capacity, the sizes that give it
 abbrev pub sizes_powered : Shape → Outcome → List ℕ → List ℕ
-sizes_powered shape (Ok (replies.Event (events.Ready known))) sizes = filter (λ ssa. count_of shape ssa * 16 == known) sizes
+sizes_powered shape (Ok (replies.Event (events.Ready known))) sizes =
+    filter (λ ssa. count_of shape ssa * 16 == known) sizes
 sizes_powered shape outcome sizes = sizes
 
 -- The same of a line, with its data: no other line changes them.

@@ -12,7 +12,8 @@ shown_without shape machine = record { shape = shape; medium = machine; lists = 
 
 -- what one with its power on shows, where its disc is not formatted: it buffers nothing
 abbrev pub shown_unformatted : Shape → Machine → ℕ → Shown
-shown_unformatted shape machine mark = record { shape = shape; medium = machine; lists = None; mark = mark; buffer = [] }
+shown_unformatted shape machine mark =
+    record { shape = shape; medium = machine; lists = None; mark = mark; buffer = [] }
 
 -- what one shows with these lists in use: its mark is the counter of their structure
 abbrev pub shown_under : Shape → Machine → Lists → List (ℕ × List ℕ) → Shown

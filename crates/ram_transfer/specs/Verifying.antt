@@ -9,7 +9,8 @@ use Rattle.model_stops.specs.declared.Stop.{Stop}
 use Rattle.model_places.specs.Places.{Lists, home_of}
 use Rattle.ram_transfer.specs.Blocks.{DiesAtMost}
 
-module _ {M : Type 0} (world : M → World) (reaches : M → M → Span → Type 0) (old new : M) (shape : Shape) (lists : Lists)
+module _ {M : Type 0} (world : M → World) (reaches : M → M → Span
+    → Type 0) (old new : M) (shape : Shape) (lists : Lists)
     (lba : ℕ) where
   -- the home of the block after n
   abbrev pub home_after : ℕ → ℕ
