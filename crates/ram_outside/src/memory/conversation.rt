@@ -29,7 +29,7 @@ pub struct MemConversation {
 }
 
 impl MemConversation {
-    ghost use Rattle.ram_outside.specs.MemConversation.{asked_in, NotesNow};
+    ghost use Rattle.ram_outside.specs.MemConversation.{asked_in, asks_kept, NotesNow};
 
     /// The conversation of this source and this sink, in which nothing was asked for yet.
     pub fn new(alloc: Global, script: MemSource, report: MemSink) -> MemConversation
@@ -54,7 +54,9 @@ impl MemConversation {
     }
 
     /// How it stood whenever more was asked for, the oldest first; nothing where memory for it was refused once.
-    pub fn asked(&self) -> &[MemAsked] {
+    pub fn asked(&self) -> &[MemAsked]
+        ensures { result.now ≡ asks_kept self.now }
+    {
         match self.forgot {
             true => &[],
             false => self.asked.as_slice(),
