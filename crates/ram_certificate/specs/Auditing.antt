@@ -2,12 +2,12 @@
 -- project's own, as all here.)
 use Rattle.std.specs.Prelude.{◌≡◌, ℕ, ◌⊎◌, Bool, true, Option, Some, List, [], take, codes}
 use Rattle.std.specs.Io.KnownBytes.{append_known}
-use Rattle.model_counts.specs.Counts.{Rose}
 use Rattle.model_audit.specs.declared.lines.CertificateLine.{CertificateLine}
 use Rattle.model_audit.specs.Text.{text_of}
 use Rattle.ram_audit.specs.Bytes.{difference_text}
 use Rattle.ram_audit.specs.Comparing.{FirstDiffer}
 use Rattle.ram_audit.specs.Discs.{AreCertificateOf, IsNoDisc}
+use Rattle.ram_outside.specs.Sink.{FailsOnce}
 use Rattle.ram_outside.specs.declared.opener.Access.TheVariants.{ReadOnly}
 use Rattle.ram_machine.specs.declared.status.Status.{Status}
 use Rattle.ram_machine.specs.declared.status.Status.TheVariants as statuses
@@ -54,7 +54,8 @@ Tells answers before after status = (text : List ℕ) × answers text status × 
 abbrev pub AnswersBy : (due : Status) (text : List ℕ) → (before after : Option (List ℕ)) → (faults faults' : ℕ) → Status → Type 0
 AnswersBy due text before after faults faults' status =
     ((status ≡ due) × (after ≡ append_known before text) × (faults' ≡ faults))
-    ⊎ ((status ≡ statuses.SinkFault) × ((n : ℕ) × (after ≡ append_known before (take n text))) × Rose faults faults')
+    ⊎ ((status ≡ statuses.SinkFault) × ((n : ℕ) × (after ≡ append_known before (take n text)))
+    × FailsOnce faults faults')
 
 -- The image that is opened next has these bytes, and the opener tells what is handed back.
 pub record OpensKnown {I : Type 0} (bytes_of : I → Option (List ℕ)) (held : List ℕ) (before : Surroundings I) (returned_known : Bool) : Type 0 where

@@ -21,12 +21,13 @@ pub record SourceState : Type 0 where
   pub piece : ℕ
   pub calls : CallLog
 
--- a sink in memory: the bytes that were written, how many it has room for, the most that it takes at once, and its
--- calls (this project's own)
+-- a sink in memory: the bytes that were written, how many it has room for, the most that it takes at once, how many bytes would have
+-- been written had the last call that failed taken its whole piece, and its calls (this project's own)
 pub record SinkState : Type 0 where
   pub written : List ℕ
   pub room : ℕ
   pub piece : ℕ
+  pub refused : ℕ
   pub calls : CallLog
 
 -- an image in memory: its bytes, how many it has room for, and its calls (this project's own)
@@ -80,6 +81,7 @@ pub record TakesPiece (old new : SinkState) (piece : List ℕ) (n : ℕ) : Type 
   pub written : new.written ≡ old.written ++ take n piece
   pub room : old.room ≤ new.room
   pub piece_stays : new.piece ≡ old.piece
+  pub refused : new.refused ≡ old.refused
   pub calls : new.calls ≡ with_call old.calls
 
 -- nothing was written, since the call is one that fails, or room was refused (this project's own)
@@ -88,6 +90,7 @@ pub record RefusesPiece (old new : SinkState) (piece : List ℕ) : Type 0 where
   pub written : new.written ≡ old.written
   pub room : old.room ≤ new.room
   pub piece_stays : new.piece ≡ old.piece
+  pub refused : new.refused ≡ length old.written + length piece
   pub calls : new.calls ≡ with_failed_call old.calls
 
 -- Exactly what `put` of a sink in memory does, by its answer. (This project's own.)

@@ -18,6 +18,7 @@
 //! - `Conversation::take`, `AsksNow`: It notes what was left to come and what was written before. The sink is a part of a conversation:
 //!   whoever writes to it changes nothing else of it (`HoldsReport`).
 //! - `MemConversation`: It keeps how it stood whenever more was asked for, unless memory for that is refused; `BothEnds` does not.
+//! - `Sink::put`, `SinkFails`: It counts exactly one failure, and what the piece would have made of the report is known (`refused`).
 //! - `StdSource`, `StdSink`, `FileImage`, `FileOpener`, `rule`, `count`: They obey their trait, with no bytes known. The count
 //!   rises by one exactly where the call failed.
 //!

@@ -1,7 +1,7 @@
 //! Standard input and standard output. No bytes of them are known; what the system does is trusted.
 ghost use Rattle.std.specs.Prelude.{◌≡◌, ℕ, ◌<◌, ◌≤◌, None, IfOk, length};
 ghost use Rattle.ram_outside.specs.Source.{TakeRule};
-ghost use Rattle.ram_outside.specs.Sink.{PutRule};
+ghost use Rattle.ram_outside.specs.Sink.{PutRule, sink_shown};
 ghost use Rattle.ram_outside.specs.Adapters.{count_after_take, count_after_put};
 
 use crate::errors::count_error;
@@ -83,11 +83,13 @@ impl<R: Print> StdSink<R> {
 impl<R: Print> Sink for StdSink<R> {
     ghost written = { λ _. None };
 
+    ghost refused = { λ _. None };
+
     ghost faults = { λ s. s };
 
     fn put(&mut self, piece: &[u8]) -> Put
         requires { 0 < length piece.now }
-        ensures rule { PutRule None None self.old self.new piece.now result }
+        ensures rule { PutRule (sink_shown None None self.old) (sink_shown None None self.new) piece.now result }
         ensures count { self.new ≡ count_after_put result self.old }
     {
         match count_error(write_some(&self.rt, piece), &mut self.faults) {

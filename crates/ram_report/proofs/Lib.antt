@@ -1,4 +1,5 @@
 pub mod Puts
+pub mod Refused
 pub mod OneByte
 pub mod Prints
 pub mod Turns

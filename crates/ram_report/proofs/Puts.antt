@@ -1,8 +1,8 @@
 -- What is due after one text and another.
-use Rattle.std.proofs.Common.{◌≡◌, ℕ, ◌+◌, ◌-◌, Option, None, Some, is_some, List, ◌++◌, length, take, drop, sym, ap, refl, ◌∙◌, append_assoc, take-add}
+use Rattle.std.proofs.Common.{◌≡◌, ℕ, ◌+◌, ◌-◌, ◌≤◌, Option, None, Some, is_some, List, ◌++◌, length, take, drop, sym, ap, refl, ◌∙◌, arith, append_assoc, length-append, length-take, length-drop, take-add}
 use Rattle.std.proofs.lemmas.List.{take_rest, drop-drop, take-append-drop}
 use Rattle.std.specs.Io.KnownBytes.{append_known, Appends}
-use Rattle.ram_outside.specs.Sink.{Takes}
+use Rattle.ram_outside.specs.Sink.{length_with}
 
 -- known bytes that grew, and are still known, are the old ones and what came
 Appends-is : (a b : Option (List ℕ)) (bs : List ℕ) → Appends a b bs → is_some b ≡ is_some a → b ≡ append_known a bs
@@ -16,11 +16,23 @@ pub append_known-twice : (a : Option (List ℕ)) (xs ys : List ℕ) → append_k
 append_known-twice None xs ys = refl
 append_known-twice (Some zs) xs ys = ap Some (append_assoc zs xs ys)
 
+-- how many bytes there are with one text and n more
+pub length_with-append : (a : Option (List ℕ)) (xs : List ℕ) (n : ℕ) → length_with (append_known a xs) n ≡ length_with a (length xs + n)
+length_with-append None xs n = refl
+length_with-append (Some zs) xs n = ap Some (omega (arith, length-append zs xs))
+
+-- the sink refused what is left of a text, so all of the text was offered
+pub offered_whole : (first before : Option (List ℕ)) (text : List ℕ) (sent : ℕ) → sent ≤ length text → before ≡ append_known first (take sent text) → length_with before (length (take (length text - sent) (drop sent text))) ≡ length_with first (length text)
+offered_whole first before text sent inside is =
+    ap (λ (a : Option (List ℕ)). length_with a (length (take (length text - sent) (drop sent text)))) is
+    ∙ length_with-append first (take sent text) (length (take (length text - sent) (drop sent text)))
+    ∙ ap (length_with first) (omega (arith, inside, length-take sent text, length-take (length text - sent) (drop sent text), length-drop sent text))
+
 -- the sink took n bytes more of the text
-pub took_more : (first before after : Option (List ℕ)) (text : List ℕ) (sent n faults faults' : ℕ) → before ≡ append_known first (take sent text) → Takes before after faults faults' (take (length text - sent) (drop sent text)) n → after ≡ append_known first (take (sent + n) text)
-took_more first before after text sent n faults faults' is takes =
+pub took_more : (first before after : Option (List ℕ)) (text : List ℕ) (sent n : ℕ) → before ≡ append_known first (take sent text) → Appends before after (take n (take (length text - sent) (drop sent text))) → is_some after ≡ is_some before → after ≡ append_known first (take (sent + n) text)
+took_more first before after text sent n is grew known =
     let piece : List ℕ = take (length text - sent) (drop sent text) in
-    Appends-is before after (take n piece) takes.written takes.known ∙ ap (λ (a : Option (List ℕ)). append_known a (take n piece)) is
+    Appends-is before after (take n piece) grew known ∙ ap (λ (a : Option (List ℕ)). append_known a (take n piece)) is
     ∙ append_known-twice first (take sent text) (take n piece)
     ∙ ap (λ (xs : List ℕ). append_known first (take sent text ++ take n xs)) (take_rest text sent) ∙ ap (append_known first) (sym (take-add sent n text))
 

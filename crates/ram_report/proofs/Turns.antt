@@ -31,12 +31,12 @@ prefix T more k (suc n) =
     (before.0 ++ one.0, ap T (let e : k + suc n ≡ k + n + 1 = omega arith in e) ∙ one.1 ∙ ap (λ xs. xs ++ one.0) before.1 ∙ append_assoc (T k) before.0 one.0)
 
 -- a piece was cut off
-pub piece_cut : (T : ℕ → List ℕ) → ((k : ℕ) → (rest : List ℕ) × (T (k + 1) ≡ T k ++ rest)) → (a b c : Option (List ℕ)) (f g h k n : ℕ) (piece : List ℕ) → k < n → IsPut a b f g (T k) → IsCutShort b c g h piece → T (k + 1) ≡ T k ++ piece → IsCutShort a c f h (T n)
-piece_cut T every a b c f g h k n piece below so_far cut more =
+pub piece_cut : {o : Option ℕ} (T : ℕ → List ℕ) → ((k : ℕ) → (rest : List ℕ) × (T (k + 1) ≡ T k ++ rest)) → (a b c : Option (List ℕ)) (f g h k n : ℕ) (piece : List ℕ) → k < n → IsPut a b f g (T k) → IsCutShort o b c g h piece → T (k + 1) ≡ T k ++ piece → IsCutShort o a c f h (T n)
+piece_cut {o} T every a b c f g h k n piece below so_far cut more =
     let all = prefix T every (k + 1) (n - (k + 1)) in
     let whole : T n ≡ T (k + 1) ++ all.0 = ap T (let e : n ≡ k + 1 + (n - (k + 1)) = omega arith in e) ∙ all.1 in
-    subst (IsCutShort a c f h) (sym whole)
-    (cut_first a c f h (T (k + 1)) all.0 (subst (IsCutShort a c f h) (sym more) (put_cut a b c f g h (T k) piece so_far cut)))
+    subst (IsCutShort o a c f h) (sym whole)
+    (cut_first a c f h (T (k + 1)) all.0 (subst (IsCutShort o a c f h) (sym more) (put_cut a b c f g h (T k) piece so_far cut)))
 
 -- one sector more
 range_more : (n : ℕ) → range_with_len 0 (n + 1) ≡ range_with_len 0 n ++ n ∷ []
@@ -109,14 +109,14 @@ pub no_digits_put : (a : Option (List ℕ)) (f : ℕ) (bytes : List ℕ) → IsP
 no_digits_put a f bytes = subst (IsPut a a f f) (digits_none bytes) (nothing_put a f)
 
 -- the same text, under another name or in other groups
-pub renamed : (a b : Option (List ℕ)) (f g : ℕ) (s s' t : List ℕ) (answer : Result (Unit {0}) SinkFailed) → s ≡ s' → TextRule a b f g (s ++ t) answer → TextRule a b f g (s' ++ t) answer
-renamed a b f g s s' t answer is rule = subst (λ (x : List ℕ). TextRule a b f g (x ++ t) answer) is rule
+pub renamed : (o : Option ℕ) (a b : Option (List ℕ)) (f g : ℕ) (s s' t : List ℕ) (answer : Result (Unit {0}) SinkFailed) → s ≡ s' → TextRule o a b f g (s ++ t) answer → TextRule o a b f g (s' ++ t) answer
+renamed o a b f g s s' t answer is rule = subst (λ (x : List ℕ). TextRule o a b f g (x ++ t) answer) is rule
 
-pub renamed_cut : (a b : Option (List ℕ)) (f g : ℕ) (s s' t : List ℕ) → s ≡ s' → IsCutShort a b f g (s ++ t) → IsCutShort a b f g (s' ++ t)
-renamed_cut a b f g s s' t is cut = subst (λ (x : List ℕ). IsCutShort a b f g (x ++ t)) is cut
+pub renamed_cut : {o : Option ℕ} (a b : Option (List ℕ)) (f g : ℕ) (s s' t : List ℕ) → s ≡ s' → IsCutShort o a b f g (s ++ t) → IsCutShort o a b f g (s' ++ t)
+renamed_cut {o} a b f g s s' t is cut = subst (λ (x : List ℕ). IsCutShort o a b f g (x ++ t)) is cut
 
-pub regrouped : (a b : Option (List ℕ)) (f g : ℕ) (s t u v : List ℕ) (answer : Result (Unit {0}) SinkFailed) → TextRule a b f g (s ++ (t ++ (u ++ v))) answer → TextRule a b f g (s ++ (t ++ u ++ v)) answer
-regrouped a b f g s t u v answer rule = subst (λ (x : List ℕ). TextRule a b f g (s ++ x) answer) (sym (append_assoc t u v)) rule
+pub regrouped : (o : Option ℕ) (a b : Option (List ℕ)) (f g : ℕ) (s t u v : List ℕ) (answer : Result (Unit {0}) SinkFailed) → TextRule o a b f g (s ++ (t ++ (u ++ v))) answer → TextRule o a b f g (s ++ (t ++ u ++ v)) answer
+regrouped o a b f g s t u v answer rule = subst (λ (x : List ℕ). TextRule o a b f g (s ++ x) answer) (sym (append_assoc t u v)) rule
 
-pub all_cut : (a b : Option (List ℕ)) (f g : ℕ) (s t : List ℕ) → s ≡ t → IsCutShort a b f g s → IsCutShort a b f g t
-all_cut a b f g s t is cut = subst (IsCutShort a b f g) is cut
+pub all_cut : {o : Option ℕ} (a b : Option (List ℕ)) (f g : ℕ) (s t : List ℕ) → s ≡ t → IsCutShort o a b f g s → IsCutShort o a b f g t
+all_cut {o} a b f g s t is cut = subst (IsCutShort o a b f g) is cut

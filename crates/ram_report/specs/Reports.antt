@@ -17,13 +17,15 @@ module _ {K : Type 0} (sinks : Sinks K) where
 
   -- The text is printed, or cut off by a failure of the sink: the writer and the sink, before and after.
   abbrev pub Prints : ReportWriter → K → ReportWriter → K → List ℕ → Print → Type 0
-  Prints w s w' s' text answer = PrintRule (due_of w s) (due_of w' s') (sinks.faults s) (sinks.faults s') text answer
+  Prints w s w' s' text answer =
+      PrintRule (sinks.refused s') (due_of w s) (due_of w' s') (sinks.faults s) (sinks.faults s') text answer
 
   -- the same of a call inside, by how it went
   abbrev pub PutsText : ReportWriter → K → ReportWriter → K → List ℕ → Result (Unit {0}) SinkFailed → Type 0
-  PutsText w s w' s' text outcome = TextRule (due_of w s) (due_of w' s') (sinks.faults s) (sinks.faults s') text outcome
+  PutsText w s w' s' text outcome =
+      TextRule (sinks.refused s') (due_of w s) (due_of w' s') (sinks.faults s) (sinks.faults s') text outcome
 
   -- What is gathered is handed over, or a prefix of it and the sink failed: the writer and the sink, before and after.
   abbrev pub HandsOver : ReportWriter → K → ReportWriter → K → Print → Type 0
   HandsOver w s w' s' answer =
-      FlushRule (due_of w s) (due_of w' s') (gathered_in w') (sinks.faults s) (sinks.faults s') answer
+      FlushRule (sinks.refused s') (due_of w s) (due_of w' s') (gathered_in w') (sinks.faults s) (sinks.faults s') answer

@@ -1,6 +1,6 @@
 //! Text that is gathered on its way to a sink. It touches its own bytes, and the sink's by `put` alone.
 ghost use Rattle.std.specs.Prelude.{◌≡◌, ◌+◌, ◌<◌, ◌≤◌, ℕ, Option, List, [], ◌++◌, length, IfOk, MatchBool};
-ghost use Rattle.ram_report.specs.Writer.{TextRule, PrintRule, FlushRule, HandOverRule, due};
+ghost use Rattle.ram_report.specs.Writer.{TextRule, PrintRule, FillRule, FlushRule, HandOverRule, due};
 ghost use Rattle.ram_report.specs.declared.gathered.TheConstants.{GATHERED_ROOM};
 
 use ram_bytes::{Budget, MemoryRefused};
@@ -25,8 +25,9 @@ pub struct SinkFailed;
 
 /// The answer of a call that prints, by how it went inside.
 pub(crate) fn printed(outcome: Result<(), SinkFailed>) -> Print
-    ensures { (before after : Option (List ℕ)) (faults faults' : ℕ) (text : List ℕ)
-        → TextRule before after faults faults' text outcome → PrintRule before after faults faults' text result }
+    ensures { (refused : Option ℕ) (before after : Option (List ℕ)) (faults faults' : ℕ) (text : List ℕ)
+        → TextRule refused before after faults faults' text outcome
+        → PrintRule refused before after faults faults' text result }
 {
     match outcome {
         Ok(()) => Print::Done,
@@ -43,13 +44,13 @@ pub struct Gathered {
 }
 
 impl Model for Gathered {
-    ghost use Rattle.std.specs.Prelude.{ℕ, List, ◌≤◌, drop, vec_len, vec_capacity};
+    ghost use Rattle.std.specs.Prelude.{ℕ, List, ◌<◌, ◌≤◌, drop, vec_len, vec_capacity};
 
     ghost Value = { List ℕ };
 
     ghost view = { λ g. drop g.sent g.bytes.items };
 
-    ghost invariant = { λ g. (g.sent ≤ vec_len g.bytes) × (vec_len g.bytes ≤ 65536) × (65536 ≤ vec_capacity g.bytes) };
+    ghost invariant = { λ g. (g.sent ≤ vec_len g.bytes) × (vec_len g.bytes < 65536) × (65536 ≤ vec_capacity g.bytes) };
 }
 
 impl Gathered {
@@ -70,29 +71,28 @@ impl Gathered {
         })
     }
 
-    /// Puts a text behind what is gathered; where it does not fit, what is gathered goes to the sink first. A text
-    /// longer than the room goes to the sink at once.
+    /// Puts a text behind what is gathered. As soon as the room is full, all of it goes to the sink; so where the sink fails, it was offered
+    /// a byte of the text at least.
     ///
     /// # Answers
     ///
     /// - `Ok`: the whole text is due. (`IsPut`)
     /// - `Err`: the sink counted a failure; a prefix of the text is due. (`IsCutShort`)
     pub fn put<K: Sink>(&mut self, sink: &mut K, text: &[u8]) -> Result<(), SinkFailed>
-        ensures rule { TextRule (due (K.written sink.old) self.old) (due (K.written sink.new) self.new)
+        ensures rule { TextRule (K.refused sink.new)
+            (due (K.written sink.old) self.old) (due (K.written sink.new) self.new)
             (K.faults sink.old) (K.faults sink.new) text.now result }
         ensures few { length self.new ≤ GATHERED_ROOM }
     {
         if self.gather(text) {
             return Ok(());
         }
-        match self.flush(sink) {
-            Print::Done => {}
-            Print::Failed => return Err(SinkFailed),
-        }
-        if self.gather(text) {
+        let first = self.hand_over_full(sink, text)?;
+        let rest = &text[first..];
+        if self.gather(rest) {
             return Ok(());
         }
-        match hand_over(sink, text) {
+        match hand_over(sink, rest) {
             Ok(()) => Ok(()),
             Err(_) => Err(SinkFailed),
         }
@@ -104,7 +104,8 @@ impl Gathered {
     ///
     /// As for `ReportWriter::flush`.
     pub fn flush<K: Sink>(&mut self, sink: &mut K) -> Print
-        ensures rule { FlushRule (due (K.written sink.old) self.old) (due (K.written sink.new) self.new)
+        ensures rule { FlushRule (K.refused sink.new)
+            (due (K.written sink.old) self.old) (due (K.written sink.new) self.new)
             self.new (K.faults sink.old) (K.faults sink.new) result }
         ensures few { length self.new ≤ GATHERED_ROOM }
     {
@@ -121,15 +122,48 @@ impl Gathered {
         }
     }
 
-    // Puts the text behind what is gathered, if it fits.
-    fn gather(&mut self, text: &[u8]) -> bool
-        ensures rule { MatchBool result (self.new ≡ self.old ++ text.now) (self.new ≡ self.old) }
+    // Fills the room with the beginning of the text, hands all of it over, and tells how many bytes of the text went. Where the sink fails,
+    // what it did not take of the text is taken back, so that the room is not left full.
+    fn hand_over_full<K: Sink>(&mut self, sink: &mut K, text: &[u8]) -> Result<usize, SinkFailed>
+        requires { 0 < length text.now }
+        ensures rule { FillRule (K.refused sink.new)
+            (due (K.written sink.old) self.old) (due (K.written sink.new) self.new)
+            (K.faults sink.old) (K.faults sink.new) self.new text.now result }
         ensures few { length self.new ≤ GATHERED_ROOM }
     {
-        if text.len() > GATHERED_ROOM - self.bytes.len() {
+        let held = self.bytes.len();
+        let first = text.len().min(GATHERED_ROOM - held);
+        match self.bytes.extend_from_slice(&text[..first]) {
+            Ok(()) => {}
+            Err(_) => unreachable!(),
+        }
+        match hand_over(sink, &self.bytes[self.sent..]) {
+            Ok(()) => {
+                self.bytes.clear();
+                self.sent = 0;
+                Ok(first)
+            }
+            Err(count) => {
+                self.bytes.truncate(held);
+                self.sent = held.min(self.sent + count);
+                Err(SinkFailed)
+            }
+        }
+    }
+
+    // Puts the text behind what is gathered, if there is room for it and one byte more.
+    fn gather(&mut self, text: &[u8]) -> bool
+        ensures rule { MatchBool result (self.new ≡ self.old ++ text.now)
+            ((self.new ≡ self.old) × (0 < length text.now)) }
+        ensures few { length self.new ≤ GATHERED_ROOM }
+    {
+        if text.len() >= GATHERED_ROOM - self.bytes.len() {
             return false;
         }
-        self.bytes.extend_from_slice(text).is_ok()
+        match self.bytes.extend_from_slice(text) {
+            Ok(()) => true,
+            Err(_) => unreachable!(),
+        }
     }
 }
 
@@ -137,14 +171,14 @@ impl Gathered {
 ///
 /// # Clauses
 ///
-/// - `HandOverRule`: The whole text was written; or a prefix of it, and the sink's count rose.
+/// - `HandOverRule`: The whole text was written; or a prefix of it, and the sink failed once and refused the rest.
 ///
 /// # Answers
 ///
 /// - `Ok`: the whole text was written. (`HandOverRule`)
 /// - `Err`: the sink counted a failure; exactly this many bytes of the text were written, which are not all. (`HandOverRule`)
 pub fn hand_over<K: Sink>(sink: &mut K, text: &[u8]) -> Result<(), usize>
-    ensures { HandOverRule (K.written sink.old) (K.written sink.new)
+    ensures { HandOverRule (K.refused sink.new) (K.written sink.old) (K.written sink.new)
         (K.faults sink.old) (K.faults sink.new) text.now result }
 {
     let mut sent = 0;

@@ -4,6 +4,8 @@
 //!
 //! - `ReportWriter`, `few` (a fact of the type): At most 64 KiB (`GATHERED_ROOM`) are gathered at any time, also after a failure
 //!   of the sink.
+//! - `ReportWriter::put`, `IsCutShort`: Where the sink fails, it fails once, and was offered all that was due and a byte of the text at
+//!   least.
 //!
 //! Only tested, by rows of `ram_text_tests`: the text of each answer, as bytes.
 //!

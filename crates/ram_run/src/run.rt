@@ -46,9 +46,9 @@ use ram_volume::Volume;
 ///   written, and the image is as the next line, in which it failed, leaves it. (`IsNotBegun`, `IsStoppedInLine`)
 /// - `SourceFault`: the source counted a failure. Then: every whole line that came is answered; the image is as the lines leave
 ///   it. (`IsBroken`)
-/// - `SinkFault`: the sink counted a failure; image or source may have too. Then: a beginning of the text due is written, of
-///   which at most 64 KiB are missing from before the last line done; the image is as the lines leave it, or the next one in
-///   which it failed. (`IsReportCutOff`, `StoodBehind`)
+/// - `SinkFault`: the sink counted one failure; image or source may have too. Then: no line was answered after it; a beginning of
+///   the text due is written, of which at most 64 KiB are missing from before the last line done; the image is as the lines leave
+///   it, or the next one in which it failed. (`IsReportCutOff`, `IsOffered`, `StoodBehind`)
 /// - `NoMemory`: never: the memory was taken before. (`MemoryRule`)
 /// - `NotADisc`: the next line needs a disc, and there is none. Then: all answers and that last line are written; the image is as
 ///   the lines leave it. (`IsEnded`)

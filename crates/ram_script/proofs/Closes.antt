@@ -53,14 +53,15 @@ module _ (source source' sink sink' faults failed : ℕ) where
     stands_there statuses.NotADisc stands = stands
 
 -- the same, where what is known before and afterwards has other names
-pub renamed : (first : Beginning) (left left' written written' image image' : Option (List ℕ)) (old old' new new' : Counts) (status : Status) → left' ≡ left → written' ≡ written → image' ≡ image → old' ≡ old → new' ≡ new
-    → StandsWith first (aftermath left written image) old new status → StandsWith first (aftermath left' written' image') old' new' status
-renamed first left left' written written' image image' old old' new new' status l w i o n stands =
-    subst (λ x. StandsWith first (aftermath x written' image') old' new' status) (sym l)
-    (subst (λ x. StandsWith first (aftermath left x image') old' new' status) (sym w)
-    (subst (λ x. StandsWith first (aftermath left written x) old' new' status) (sym i)
-    (subst (λ x. StandsWith first (aftermath left written image) x new' status) (sym o)
-    (subst (λ x. StandsWith first (aftermath left written image) old x status) (sym n) stands))))
+pub renamed : (first : Beginning) (left left' written written' image image' : Option (List ℕ)) (refused refused' : Option ℕ) (old old' new new' : Counts) (status : Status) → left' ≡ left → written' ≡ written → refused' ≡ refused → image' ≡ image → old' ≡ old → new' ≡ new
+    → StandsWith first (aftermath left written refused image) old new status → StandsWith first (aftermath left' written' refused' image') old' new' status
+renamed first left left' written written' image image' refused refused' old old' new new' status l w r i o n stands =
+    subst (λ x. StandsWith first (aftermath x written' refused' image') old' new' status) (sym l)
+    (subst (λ x. StandsWith first (aftermath left x refused' image') old' new' status) (sym w)
+    (subst (λ x. StandsWith first (aftermath left written x image') old' new' status) (sym r)
+    (subst (λ x. StandsWith first (aftermath left written refused x) old' new' status) (sym i)
+    (subst (λ x. StandsWith first (aftermath left written refused image) x new' status) (sym o)
+    (subst (λ x. StandsWith first (aftermath left written refused image) old x status) (sym n) stands)))))
 
 -- what is known, of the image that was opened
 pub begins_known : {I : Type 0} (bytes_of : I → Option (List ℕ)) (first : Beginning) (before : Surroundings I) (returned_known : Bool) (image : I) → IsBeginning bytes_of first before returned_known → IfSome before.opener.next (λ known. image ≡ known)

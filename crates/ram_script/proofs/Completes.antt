@@ -236,9 +236,9 @@ never_lacks first begins far line is =
 
 -- the sink failed, whatever failed before it
 sink_failed : (before after : Counts) → SinkRose before after → Rose before.sink after.sink
-sink_failed before after (inl alone) = alone.sink
-sink_failed before after (inr (inl source)) = source.sink
-sink_failed before after (inr (inr image)) = image.sink
+sink_failed before after (inl alone) = omega (arith, alone.sink)
+sink_failed before after (inr (inl source)) = omega (arith, source.sink)
+sink_failed before after (inr (inr image)) = omega (arith, image.sink)
 
 module _ (first : Beginning) (language : IsInLanguage first.script) (begins : BeginsWithDisc first) (before after : Counts) (none : NoneRose before after) where
   comes_to_its_end : (aftermath : Aftermath) (status : Status) → StatusCounts before after status → StandsWith first aftermath before after status → IsComplete status

@@ -1,7 +1,8 @@
 -- Counts over several steps.
-use Rattle.std.specs.Prelude.{◌≡◌, ℕ, ◌≤◌, ◌⊎◌, Option, Ok, Err, List}
-use Rattle.std.proofs.Common.{arith, refl, sym, ◌∙◌, inl, inr, subst}
-use Rattle.model_counts.specs.Counts.{Rose}
+use Rattle.std.specs.Prelude.{◌≡◌, ℕ, Option, Ok, Err, List}
+use Rattle.std.proofs.Common.{refl, sym, ap, ◌∙◌, inl, inr, subst}
+use Rattle.model_counts.specs.Counts.{Rose, counted}
+use Rattle.ram_outside.specs.Sink.{FailsOnce, sink_shown}
 use Rattle.ram_script.specs.declared.state.Tally.{Tally}
 use Rattle.ram_machine.specs.declared.stopped.Stopped.{Stopped}
 use Rattle.ram_machine.specs.declared.stopped.Stopped.TheVariants as stopped
@@ -11,7 +12,7 @@ use Rattle.ram_machine.specs.Replies.{Outcome}
 use Rattle.ram_script.specs.RunCounts.{Counts, counts_of, SameCounts, WhyCounts, StopCounts, TellCount}
 use Rattle.ram_machine.specs.LineFaults.{LineCount}
 use Rattle.ram_script.specs.Progress.{View, Ending, TellRule}
-use Rattle.ram_script.specs.Endings.{status_of, SinkRose, StatusCounts, EndsWhole, FinishRule, sink_view}
+use Rattle.ram_script.specs.Endings.{status_of, SinkRose, StatusCounts, SinkCause, EndsWhole, FinishRule}
 use Rattle.ram_script.proofs.Behind.{Behind}
 use Rattle.ram_script.proofs.Finishes.{not_sink}
 
@@ -26,7 +27,7 @@ why_counts a b c stopped.LineTooLong p q = none_rose a b c p q
 why_counts a b c stopped.ScriptTooLong p q = none_rose a b c p q
 why_counts a b c stopped.NotADisc p q = none_rose a b c p q
 why_counts a b c stopped.SourceFault p q = record { source = subst (λ n. Rose n c.source) p.source q.source; sink = q.sink ∙ p.sink; image = q.image ∙ p.image }
-why_counts a b c stopped.SinkFault p q = record { source = q.source ∙ p.source; sink = subst (λ n. Rose n c.sink) p.sink q.sink; image = q.image ∙ p.image }
+why_counts a b c stopped.SinkFault p q = record { source = q.source ∙ p.source; sink = subst (λ n. FailsOnce n c.sink) p.sink q.sink; image = q.image ∙ p.image }
 why_counts a b c stopped.ImageFault p q = record { source = q.source ∙ p.source; sink = q.sink ∙ p.sink; image = subst (λ n. Rose n c.image) p.image q.image }
 
 -- the counts of a line that came out so, and whose outcome was told
@@ -53,30 +54,22 @@ module _ (source sink sink' image image' : ℕ) (old new : View) (data_in : List
       by_why stopped.SinkFault is = absurd is
 
 -- the counts after a report was ended, by the status that is told
-module _ (source source' sink sink' sink'' image image' : ℕ) (due before written : Option (List ℕ)) (tally : Tally) where
-  -- the sink failed in the lines, or in the end
-  sink_rose : (ending : Ending) → StopCounts (counts_of source sink image) (counts_of source' sink' image') ending → (ending ≡ Err stopped.SinkFault) ⊎ Rose sink' sink'' → sink' ≤ sink'' → Rose sink sink''
-  sink_rose ending c (inl is) le = let rose = subst (StopCounts (counts_of source sink image) (counts_of source' sink' image')) is c in omega (arith, rose.sink, le)
-  sink_rose (Ok done) c (inr rose) le = subst (λ n. Rose n sink'') c.sink rose
-  sink_rose (Err stopped.NotInLanguage) c (inr rose) le = subst (λ n. Rose n sink'') c.sink rose
-  sink_rose (Err stopped.LineTooLong) c (inr rose) le = subst (λ n. Rose n sink'') c.sink rose
-  sink_rose (Err stopped.ScriptTooLong) c (inr rose) le = subst (λ n. Rose n sink'') c.sink rose
-  sink_rose (Err stopped.NotADisc) c (inr rose) le = subst (λ n. Rose n sink'') c.sink rose
-  sink_rose (Err stopped.SourceFault) c (inr rose) le = subst (λ n. Rose n sink'') c.sink rose
-  sink_rose (Err stopped.ImageFault) c (inr rose) le = subst (λ n. Rose n sink'') c.sink rose
-  sink_rose (Err stopped.SinkFault) c (inr rose) le = omega (arith, c.sink, le)
+module _ (source source' sink sink' sink'' image image' : ℕ) (due before written : Option (List ℕ)) (refused refused' : Option ℕ) (tally : Tally) where
+  -- the sink failed in the end, and not before
+  once : sink' ≡ sink → FailsOnce sink' sink'' → FailsOnce sink sink''
+  once same fails = fails ∙ ap (λ n. counted n 1) same
 
   -- what had stopped the lines failed, and the sink; nothing else
-  pub behind : (ending : Ending) → StopCounts (counts_of source sink image) (counts_of source' sink' image') ending → (ending ≡ Err stopped.SinkFault) ⊎ Rose sink' sink'' → sink' ≤ sink''
+  pub behind : (ending : Ending) → StopCounts (counts_of source sink image) (counts_of source' sink' image') ending → SinkCause due (sink_shown before refused sink') (sink_shown written refused' sink'') ending
       → Behind (counts_of source sink image) (counts_of source' sink'' image') ending
-  behind (Ok done) c cause le = record { source = c.source; sink = sink_rose (Ok done) c cause le; image = c.image }
-  behind (Err stopped.NotInLanguage) c cause le = record { source = c.source; sink = sink_rose (Err stopped.NotInLanguage) c cause le; image = c.image }
-  behind (Err stopped.LineTooLong) c cause le = record { source = c.source; sink = sink_rose (Err stopped.LineTooLong) c cause le; image = c.image }
-  behind (Err stopped.ScriptTooLong) c cause le = record { source = c.source; sink = sink_rose (Err stopped.ScriptTooLong) c cause le; image = c.image }
-  behind (Err stopped.NotADisc) c cause le = record { source = c.source; sink = sink_rose (Err stopped.NotADisc) c cause le; image = c.image }
-  behind (Err stopped.SinkFault) c cause le = record { source = c.source; sink = sink_rose (Err stopped.SinkFault) c cause le; image = c.image }
-  behind (Err stopped.SourceFault) c cause le = record { source = c.source; sink = sink_rose (Err stopped.SourceFault) c cause le; image = c.image }
-  behind (Err stopped.ImageFault) c cause le = record { source = c.source; sink = sink_rose (Err stopped.ImageFault) c cause le; image = c.image }
+  behind (Ok done) c cause = record { source = c.source; sink = once c.sink cause.count; image = c.image }
+  behind (Err stopped.NotInLanguage) c cause = record { source = c.source; sink = once c.sink cause.count; image = c.image }
+  behind (Err stopped.LineTooLong) c cause = record { source = c.source; sink = once c.sink cause.count; image = c.image }
+  behind (Err stopped.ScriptTooLong) c cause = record { source = c.source; sink = once c.sink cause.count; image = c.image }
+  behind (Err stopped.NotADisc) c cause = record { source = c.source; sink = once c.sink cause.count; image = c.image }
+  behind (Err stopped.SinkFault) c cause = record { source = c.source; sink = cause.count ∙ c.sink; image = c.image }
+  behind (Err stopped.SourceFault) c cause = record { source = c.source; sink = once c.sink cause.count; image = c.image }
+  behind (Err stopped.ImageFault) c cause = record { source = c.source; sink = once c.sink cause.count; image = c.image }
 
   -- so at most one of source and image failed
   at_most_one : (ending : Ending) → Behind (counts_of source sink image) (counts_of source' sink'' image') ending → SinkRose (counts_of source sink image) (counts_of source' sink'' image')
@@ -102,16 +95,16 @@ module _ (source source' sink sink' sink'' image image' : ℕ) (due before writt
   by_ending (Err stopped.SinkFault) other c same = absurd (other refl)
 
   by_status : (ending : Ending) (status : Status) → (statuses.SinkFault ≡ status → ⊥) → StopCounts (counts_of source sink image) (counts_of source' sink' image') ending
-      → EndsWhole due (sink_view before sink') (sink_view written sink'') tally ending status → StatusCounts (counts_of source sink image) (counts_of source' sink'' image') status
+      → EndsWhole due (sink_shown before refused sink') (sink_shown written refused' sink'') tally ending status → StatusCounts (counts_of source sink image) (counts_of source' sink'' image') status
   by_status ending status other c rule =
       subst (StatusCounts (counts_of source sink image) (counts_of source' sink'' image')) (sym rule.status_is)
       (by_ending ending (λ is. not_sink ending status rule.status_is is other) c rule.count)
 
   pub status_counts : (ending : Ending) (status : Status) → StopCounts (counts_of source sink image) (counts_of source' sink' image') ending
-      → FinishRule due (sink_view before sink') (sink_view written sink'') tally ending status → StatusCounts (counts_of source sink image) (counts_of source' sink'' image') status
+      → FinishRule due (sink_shown before refused sink') (sink_shown written refused' sink'') tally ending status → StatusCounts (counts_of source sink image) (counts_of source' sink'' image') status
   status_counts ending statuses.Differs c rule = absurd rule
   status_counts ending statuses.Usage c rule = absurd rule
-  status_counts ending statuses.SinkFault c rule = at_most_one ending (behind ending c rule.cause rule.count)
+  status_counts ending statuses.SinkFault c rule = at_most_one ending (behind ending c rule.cause)
   status_counts ending statuses.Done c rule = by_status ending statuses.Done (λ x. cc) c rule
   status_counts ending statuses.Script c rule = by_status ending statuses.Script (λ x. cc) c rule
   status_counts ending statuses.ImageFault c rule = by_status ending statuses.ImageFault (λ x. cc) c rule

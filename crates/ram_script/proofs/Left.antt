@@ -1,5 +1,5 @@
 -- What the lines of a script leave of an image, by how they end.
-use Rattle.std.specs.Prelude.{◌≡◌, ℕ, Option, Ok, Err, List}
+use Rattle.std.specs.Prelude.{ℕ, Option, Ok, Err, List}
 use Rattle.std.proofs.Common.{inr}
 use Rattle.ram_machine.specs.declared.stopped.Stopped.TheVariants as stopped
 use Rattle.ram_machine.specs.States.{State}

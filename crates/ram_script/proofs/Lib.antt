@@ -1,5 +1,6 @@
 pub mod Counted
 pub mod Completes
+pub mod Offered
 pub mod Turns
 pub mod Behind
 pub mod LinesTaken

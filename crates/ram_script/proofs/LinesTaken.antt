@@ -64,7 +64,7 @@ module _ (first : Beginning) (far : SoFar first) (old new : View) (at : IsAt far
     }
 
     pub stops_unread : ((line : Line) (payload : List ℕ) → ¬ Reads raw line payload) → IsStoppedAt far new (Err stopped.NotInLanguage)
-    stops_unread nothing = record { due_is = still_due; last_is = (record { raw = raw; comes = comes; nothing = nothing }, ap (λ n. n + 1) still_tallied.lines); unended = tt; tallied = still_tallied }
+    stops_unread nothing = record { due_is = still_due; last_is = (record { raw = raw; comes = comes; nothing = nothing }, ap (λ n. n + 1) still_tallied.lines); unended = tt; offered = tt; tallied = still_tallied }
 
 -- an arm or a cut in a line that was read falls at a use from the next one on
 form_uses : (words : List (List ℕ)) (line : Line) (payload : List ℕ) → IsForm words line payload → CountsUses line

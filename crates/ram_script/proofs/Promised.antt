@@ -1,5 +1,5 @@
 -- The promise, from what stands with each status of a run.
-use Rattle.std.specs.Prelude.{◌≡◌, ℕ, ◌⊎◌, Bool, false, Option, None, Some, Err, List, [], ◌∷◌, ◌++◌}
+use Rattle.std.specs.Prelude.{◌≡◌, ℕ, false, Option, None, Some, Err, List, [], ◌∷◌, ◌++◌}
 use Rattle.std.proofs.Common.{refl, sym, ap, ◌∙◌, inl, inr}
 use Rattle.std.proofs.lemmas.List.{append-nil}
 use Rattle.std.specs.List.{All}
@@ -61,8 +61,8 @@ module _ (first : Beginning) where
       (append-nil (first.report ++ report_text far.events) ∙ sym (ap (λ (l : List ℕ). first.report ++ l) (append-nil (report_text far.events))))
 
   -- the beginning of a report
-  in_part : (far : SoFar first) (written : Option (List ℕ)) → IsWrittenInPart far written → Keeps written
-  in_part far written p = elim p.prefix [
+  in_part : (far : SoFar first) (written : Option (List ℕ)) (refused : Option ℕ) → IsWrittenInPart far written refused → Keeps written
+  in_part far written refused p = elim p.prefix [
     | inl is ↦ so_far far written p.bytes p.more None p.written_is (is ∙ sym (ap (λ (l : List ℕ). first.report ++ l) (append-nil (report_text far.events))))
     | inr (last, tells, is) ↦ so_far far written p.bytes p.more (Some last) p.written_is is
   ]
@@ -95,6 +95,6 @@ promised first after old new statuses.Script stands = ended first after stands.0
 promised first after old new statuses.ImageFault (inl p) = not_begun first after.written p.written_is
 promised first after old new statuses.ImageFault (inr p) = stopped_in first after (Err stopped.ImageFault) p
 promised first after old new statuses.SourceFault stands = reported first stands.far after.written stands.written_is
-promised first after old new statuses.SinkFault stands = in_part first stands.far after.written stands.written_is
+promised first after old new statuses.SinkFault stands = in_part first stands.far after.written after.refused stands.written_is
 promised first after old new statuses.NoMemory p = absurd p
 promised first after old new statuses.NotADisc stands = ended first after (lasts.NotADisc stands.0) stands.1

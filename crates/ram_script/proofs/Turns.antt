@@ -11,6 +11,7 @@ use Rattle.ram_machine.specs.declared.stopped.Stopped.{Stopped}
 use Rattle.ram_machine.specs.declared.stopped.Stopped.TheVariants as stopped
 use Rattle.ram_machine.proofs.Answering.{lacks_same}
 use Rattle.ram_script.proofs.Counted.{one_counted}
+use Rattle.ram_script.proofs.Offered.{offered_newest}
 use Rattle.ram_script.specs.NextLines.{ComesNext}
 use Rattle.ram_machine.specs.Replies.{Outcome}
 use Rattle.ram_script.specs.Counting.{with_reply}
@@ -18,7 +19,7 @@ use Rattle.ram_machine.specs.States.{State}
 use Rattle.ram_machine.specs.Inserted.{IsAnswered}
 use Rattle.ram_script.specs.Answered.{AnsweredLine, EndsWithBytes, answers_of, script_text, report_text, line_text}
 use Rattle.ram_machine.specs.LineFaults.{LineCount}
-use Rattle.ram_script.specs.Progress.{Beginning, SoFar, View, Between, Taken, Ending, EndsBetween, EndsCutOff, EndsInLine, Ends, TurnsTo, IsStoppedAt, IsStop, IsReplied, TellRule, lines_before}
+use Rattle.ram_script.specs.Progress.{Beginning, SoFar, IsOffered, View, Between, Taken, Ending, EndsBetween, EndsCutOff, EndsInLine, Ends, TurnsTo, IsStoppedAt, IsStop, IsReplied, IsToldInPart, TellRule, lines_before}
 
 -- the script after one line more
 reaches_more : (ends : Type 0) (script text rest raw after : List ℕ) → (script ≡ text ++ rest) ⊎ ((rest ≡ []) × ends × (script ++ line_feed ∷ [] ≡ text)) → (rest ≡ raw ++ (line_feed ∷ after)) ⊎ ((rest ≡ raw) × (0 < length raw) × (after ≡ []))
@@ -44,7 +45,7 @@ known_still (Some bytes) text = refl
 -- so does what a line is answered
 pub known_after : (old new : View) (data_in : List ℕ) (outcome : Outcome) (result : Ending) → TellRule old new data_in outcome result → is_some new.due ≡ is_some old.due
 known_after old new data_in (Ok reply) (Ok done) rule = ap (λ (o : Option (List ℕ)). is_some o) rule.grew ∙ known_still old.due (line_text (old.tally.lines + 1) reply data_in)
-known_after old new data_in (Ok reply) (Err stopped.SinkFault) rule = ap (λ (o : Option (List ℕ)). is_some o) rule.1 ∙ known_still old.due (take rule.0 (line_text (old.tally.lines + 1) reply data_in))
+known_after old new data_in (Ok reply) (Err stopped.SinkFault) rule = ap (λ (o : Option (List ℕ)). is_some o) rule.grew ∙ known_still old.due (take rule.n (line_text (old.tally.lines + 1) reply data_in))
 known_after old new data_in (Ok reply) (Err stopped.NotInLanguage) rule = absurd rule
 known_after old new data_in (Ok reply) (Err stopped.LineTooLong) rule = absurd rule
 known_after old new data_in (Ok reply) (Err stopped.ScriptTooLong) rule = absurd rule
@@ -102,30 +103,33 @@ module _ (first : Beginning) (far : SoFar first) (view : View) (line : Line) (pa
 
   -- the line was answered, and the beginning of the answer is due
   cut_off : (new : View) (reply : Reply) → IsAnswered far.now line payload data_in stands (Ok reply)
-      → (n : ℕ) × (new.due ≡ append_known view.due (take n (line_text (view.tally.lines + 1) reply data_in))) → EndsCutOff first stands new
-  cut_off new reply answered cut = record { far = one_more reply answered; stands_now = answered.stands; part = record { written = written; more = drop cut.0 text; due_is = grown; prefix = whole; before = there } }
+      → IsToldInPart view new (line_text (view.tally.lines + 1) reply data_in) → EndsCutOff first stands new
+  cut_off new reply answered cut = record { far = one_more reply answered; stands_now = answered.stands; part = record { written = written; more = drop cut.n text; due_is = grown; prefix = whole; before = there }; offered = reached }
     where
       text : List ℕ
       text = line_text (view.tally.lines + 1) reply data_in
 
       written : List ℕ
-      written = first.report ++ (report_text far.events ++ take cut.0 text)
+      written = first.report ++ (report_text far.events ++ take cut.n text)
 
       there : length (first.report ++ report_text far.events) ≤ length written
       there = omega (
         arith,
         length-append first.report (report_text far.events),
-        length-append first.report (report_text far.events ++ take cut.0 text),
-        length-append (report_text far.events) (take cut.0 text),
+        length-append first.report (report_text far.events ++ take cut.n text),
+        length-append (report_text far.events) (take cut.n text),
       )
 
       grown : IfSome new.due (λ text. text ≡ written)
-      grown = due_more view.due new.due first.report (report_text far.events) (take cut.0 text) t.due_is cut.1
+      grown = due_more view.due new.due first.report (report_text far.events) (take cut.n text) t.due_is cut.grew
 
-      whole : written ++ drop cut.0 text ≡ first.report ++ (report_text far.events ++ line_text (length far.events + 1) reply data_in)
+      reached : IsOffered (one_more reply answered) new.refused
+      reached = offered_newest view.due new.refused first.report (report_text far.events) (line_text (length far.events + 1) reply data_in) cut.offered cut.some t.due_is cut.refused_is
+
+      whole : written ++ drop cut.n text ≡ first.report ++ (report_text far.events ++ line_text (length far.events + 1) reply data_in)
       whole =
-          append_assoc first.report (report_text far.events ++ take cut.0 text) (drop cut.0 text)
-          ∙ ap (λ l. first.report ++ l) (append_assoc (report_text far.events) (take cut.0 text) (drop cut.0 text) ∙ ap (λ l. report_text far.events ++ l) (take-append-drop cut.0 text)
+          append_assoc first.report (report_text far.events ++ take cut.n text) (drop cut.n text)
+          ∙ ap (λ l. first.report ++ l) (append_assoc (report_text far.events) (take cut.n text) (drop cut.n text) ∙ ap (λ l. report_text far.events ++ l) (take-append-drop cut.n text)
           ∙ ap (λ n. report_text far.events ++ line_text (n + 1) reply data_in) t.tallied.lines)
 
   -- the line comes next
@@ -141,6 +145,7 @@ module _ (first : Beginning) (far : SoFar first) (view : View) (line : Line) (pa
       due_is = t.due_is;
       last_is = ((line, payload, data_in, answered.state, comes_next, answered.step), ap (λ n. n + 1) t.tallied.lines);
       unended = tt;
+      offered = tt;
       tallied = t.tallied;
     };
   }
@@ -190,6 +195,7 @@ ends_between first stands far view stopped.SinkFault now at is = record {
     prefix = append-nil (first.report ++ report_text far.events);
     before = before_within first.report far.events;
   };
+  offered = at.offered;
 }
 ends_between first stands far view stopped.NotADisc now at is = absurd is
 ends_between first stands far view stopped.ImageFault now at is = absurd is

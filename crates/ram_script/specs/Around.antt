@@ -1,10 +1,10 @@
 -- What is known of a conversation and an opener around a call that runs something, and what is done with them. (This project's own, as all here.)
 use Rattle.std.specs.Prelude.{◌≡◌, ℕ, ◌⊎◌, Option, List, take}
 use Rattle.std.specs.Io.KnownBytes.{append_known}
-use Rattle.model_counts.specs.Counts.{Rose}
 use Rattle.ram_outside.specs.Opener.{OpenerView, opener_view, and_asked}
 use Rattle.ram_outside.specs.declared.opener.Access.{Access}
 use Rattle.ram_outside.specs.declared.opener.Opener.{Ghosts as Openers}
+use Rattle.ram_outside.specs.Sink.{FailsOnce}
 use Rattle.ram_outside.specs.declared.sink.Sink.{Ghosts as Sinks}
 use Rattle.ram_outside.specs.Conversation.{Asked}
 use Rattle.ram_outside.specs.declared.conversation.Conversation.{Ghosts as Conversations}
@@ -21,14 +21,15 @@ WritesText written written' text _ = ⊥
 -- the sink's count where a text alone is written, by the status
 abbrev pub TextCount : ℕ → ℕ → Status → Type 0
 TextCount faults faults' statuses.Done = faults' ≡ faults
-TextCount faults faults' statuses.SinkFault = Rose faults faults'
+TextCount faults faults' statuses.SinkFault = FailsOnce faults faults'
 TextCount faults faults' _ = ⊥
 
--- What is known of a conversation and an opener: what is left to come, what was written, when more was asked for, and how often each part
--- has failed.
+-- What is known of a conversation and an opener: what is left to come, what was written, how many bytes there would be with what the sink
+-- refused, when more was asked for, and how often each part has failed.
 pub record Surroundings (I : Type 0) : Type 0 where
   pub left : Option (List ℕ)
   pub written : Option (List ℕ)
+  pub refused : Option ℕ
   pub asked : Option (List Asked)
   pub opener : OpenerView I
   pub counts : Counts
@@ -39,6 +40,7 @@ module _ {T K O I : Type 0} (talks : Conversations T K) (sinks : Sinks K) (opene
   around talk opener = record {
     left = talks.left talk;
     written = sinks.written (talks.report talk);
+    refused = sinks.refused (talks.report talk);
     asked = talks.asked talk;
     opener = opener_view (openers.next opener) (openers.returned opener) (openers.asked opener) (openers.faults opener);
     counts = counts_of (talks.faults talk) (sinks.faults (talks.report talk)) (openers.faults opener);

@@ -1,7 +1,7 @@
 -- How a run ends: what stands with each status. For the main clause of the run, and the calls that end a report.
 use Rattle.std.specs.Prelude.{◌≡◌, ℕ, ◌+◌, ◌≤◌, ◌⊎◌, Option, None, Some, IfSome, Ok, Err, List, [], ◌++◌, length}
 use Rattle.std.specs.Io.KnownBytes.{append_known, prepend_known}
-use Rattle.model_counts.specs.Counts.{Rose}
+use Rattle.ram_outside.specs.Sink.{FailsOnce, SinkShown, length_with}
 use Rattle.ram_text.specs.Lines.{HasNoFeed}
 use Rattle.ram_report.specs.ReportLines.{last_text}
 use Rattle.ram_report.specs.Writer.{PrintRule}
@@ -22,7 +22,7 @@ use Rattle.ram_machine.specs.LineSteps.{Step}
 use Rattle.ram_machine.specs.Inserted.{LeavesImage}
 use Rattle.ram_script.specs.Answered.{report_text}
 use Rattle.ram_script.specs.RunCounts.{Counts, SameCounts, OnlySourceRose, OnlySinkRose, OnlyImageRose, SourceAndSinkRose, ImageAndSinkRose}
-use Rattle.ram_script.specs.Progress.{Beginning, SoFar, IsReported, IsLast, Ending, due_before, last_line}
+use Rattle.ram_script.specs.Progress.{Beginning, SoFar, IsOffered, IsReported, IsLast, Ending, due_before, last_line}
 
 -- the status that an ending is told by (this project's own, as all here)
 abbrev pub status_of : Ending → Status
@@ -35,15 +35,17 @@ status_of (Err stopped.SourceFault) = statuses.SourceFault
 status_of (Err stopped.SinkFault) = statuses.SinkFault
 status_of (Err stopped.ImageFault) = statuses.ImageFault
 
--- What is known afterwards: what the source has left, what is written, and the image's bytes.
+-- What is known afterwards: what the source has left, what is written, how many bytes there would be with what the sink refused, and the
+-- image's bytes.
 pub record Aftermath : Type 0 where
   pub left : Option (List ℕ)
   pub written : Option (List ℕ)
+  pub refused : Option ℕ
   pub image : Option (List ℕ)
 
 -- these
-abbrev pub aftermath : Option (List ℕ) → Option (List ℕ) → Option (List ℕ) → Aftermath
-aftermath left written image = record { left = left; written = written; image = image }
+abbrev pub aftermath : Option (List ℕ) → Option (List ℕ) → Option ℕ → Option (List ℕ) → Aftermath
+aftermath left written refused image = record { left = left; written = written; refused = refused; image = image }
 
 -- the answers and this last line
 abbrev pub whole_text : {first : Beginning} → SoFar first → LastLine → List ℕ
@@ -92,14 +94,15 @@ pub record IsNotBegun (first : Beginning) (after : Aftermath) : Type 0 where
   pub image_is : after.image ≡ Some first.image
 
 -- What was written is the beginning of the text due: the answers, and a last line where there is one. Of what was due before
--- the last of these lines at most one piece is missing.
-pub record IsWrittenInPart {first : Beginning} (far : SoFar first) (written : Option (List ℕ)) : Type 0 where
+-- the last of these lines at most one piece is missing. No line was answered after the call of the sink that failed.
+pub record IsWrittenInPart {first : Beginning} (far : SoFar first) (written : Option (List ℕ)) (refused : Option ℕ) : Type 0 where
   pub bytes : List ℕ
   pub more : List ℕ
   pub written_is : written ≡ Some bytes
   pub prefix : (bytes ++ more ≡ first.report ++ report_text far.events)
       ⊎ ((last : LastLine) × IsLast far last × (bytes ++ more ≡ whole_text far last))
   pub nearly : due_before far ≤ length bytes + GATHERED_ROOM
+  pub offered : IsOffered far refused
 
 -- What else failed before the sink did: nothing; the source; or the image, in the next line.
 abbrev pub StoodBehind : {first : Beginning} → SoFar first → Aftermath → (old new : Counts) → Type 0
@@ -111,7 +114,7 @@ StoodBehind far after old new =
 -- the sink failed
 pub record IsReportCutOff (first : Beginning) (after : Aftermath) (old new : Counts) : Type 0 where
   pub far : SoFar first
-  pub written_is : IsWrittenInPart far after.written
+  pub written_is : IsWrittenInPart far after.written after.refused
   pub behind : StoodBehind far after old new
 
 -- the last line tells what is wrong with the script
@@ -156,47 +159,54 @@ text_if_any (Some last) = last_text last
 abbrev pub last_of : Tally → Ending → List ℕ
 last_of tally ending = text_if_any (last_line tally ending)
 
--- what printing the last line makes of what is due; after a failure of the sink nothing is printed
-abbrev pub LastLineRule : Option (List ℕ) → Option (List ℕ) → ℕ → ℕ → Tally → Ending → Print → Type 0
-LastLineRule due due' faults faults' tally (Err stopped.SinkFault) result =
-    (result ≡ prints.Failed) × (due' ≡ due) × (faults' ≡ faults)
-LastLineRule due due' faults faults' tally (Err stopped.SourceFault) result =
-    (result ≡ prints.Done) × (due' ≡ due) × (faults' ≡ faults)
-LastLineRule due due' faults faults' tally (Err stopped.ImageFault) result =
-    (result ≡ prints.Done) × (due' ≡ due) × (faults' ≡ faults)
-LastLineRule due due' faults faults' tally ending result = PrintRule due due' faults faults' (last_of tally ending) result
-
--- the sink's bytes and its count
-pub record SinkView : Type 0 where
-  pub written : Option (List ℕ)
-  pub faults : ℕ
-
--- these
-abbrev pub sink_view : Option (List ℕ) → ℕ → SinkView
-sink_view written faults = record { written = written; faults = faults }
+-- what printing the last line makes of what is due, and of what the sink shows; after a failure of the sink nothing is printed
+abbrev pub LastLineRule : Option (List ℕ) → Option (List ℕ) → SinkShown → SinkShown → Tally → Ending → Print → Type 0
+LastLineRule due due' old new tally (Err stopped.SinkFault) result =
+    (result ≡ prints.Failed) × (due' ≡ due) × (new.refused ≡ old.refused) × (new.faults ≡ old.faults)
+LastLineRule due due' old new tally (Err stopped.SourceFault) result =
+    (result ≡ prints.Done) × (due' ≡ due) × (new.faults ≡ old.faults)
+LastLineRule due due' old new tally (Err stopped.ImageFault) result =
+    (result ≡ prints.Done) × (due' ≡ due) × (new.faults ≡ old.faults)
+LastLineRule due due' old new tally ending result =
+    PrintRule new.refused due due' old.faults new.faults (last_of tally ending) result
 
 -- of what is due at most one piece is not written
 abbrev pub IsNearlyWritten : Option (List ℕ) → Option (List ℕ) → Type 0
 IsNearlyWritten due written =
     (text bytes : List ℕ) → due ≡ Some text → written ≡ Some bytes → length text ≤ length bytes + GATHERED_ROOM
 
+-- the sink had failed before, and nothing was offered to it since
+pub record HadFailed (old new : SinkShown) : Type 0 where
+  pub refused : new.refused ≡ old.refused
+  pub count : new.faults ≡ old.faults
+
+-- the sink failed in the end, once, and was offered all that was due
+pub record FailsInTheEnd (due : Option (List ℕ)) (old new : SinkShown) : Type 0 where
+  pub more : ℕ
+  pub refused_is : new.refused ≡ length_with due more
+  pub count : FailsOnce old.faults new.faults
+
+-- why the sink had failed in the end, by how the lines ended
+abbrev pub SinkCause : Option (List ℕ) → SinkShown → SinkShown → Ending → Type 0
+SinkCause due old new (Err stopped.SinkFault) = HadFailed old new
+SinkCause due old new ending = FailsInTheEnd due old new
+
 -- the sink failed in the end, or had failed before: what is written is the beginning of what is due and the last line
-pub record EndsAtSink (due : Option (List ℕ)) (old new : SinkView) (tally : Tally) (ending : Ending) : Type 0 where
+pub record EndsAtSink (due : Option (List ℕ)) (old new : SinkShown) (tally : Tally) (ending : Ending) : Type 0 where
   pub more : List ℕ
   pub prefix : append_known new.written more ≡ append_known due (last_of tally ending)
   pub nearly : IsNearlyWritten due new.written
-  pub count : old.faults ≤ new.faults
-  pub cause : (ending ≡ Err stopped.SinkFault) ⊎ Rose old.faults new.faults
+  pub cause : SinkCause due old new ending
 
 -- all that is due is written, and the last line
-pub record EndsWhole (due : Option (List ℕ)) (old new : SinkView) (tally : Tally) (ending : Ending)
+pub record EndsWhole (due : Option (List ℕ)) (old new : SinkShown) (tally : Tally) (ending : Ending)
     (status : Status) : Type 0 where
   pub status_is : status ≡ status_of ending
   pub whole : new.written ≡ append_known due (last_of tally ending)
   pub count : new.faults ≡ old.faults
 
 -- How a report is ended, by the status that is told.
-abbrev pub FinishRule : Option (List ℕ) → SinkView → SinkView → Tally → Ending → Status → Type 0
+abbrev pub FinishRule : Option (List ℕ) → SinkShown → SinkShown → Tally → Ending → Status → Type 0
 FinishRule due old new tally ending statuses.SinkFault = EndsAtSink due old new tally ending
 FinishRule due old new tally ending statuses.Differs = ⊥
 FinishRule due old new tally ending statuses.Usage = ⊥

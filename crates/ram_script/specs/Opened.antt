@@ -21,4 +21,4 @@ bytes_returned bytes_of (Some image) = bytes_of image
 
 -- what is known after a run
 abbrev pub aftermath_of : {I : Type 0} → (I → Option (List ℕ)) → Surroundings I → Aftermath
-aftermath_of bytes_of after = aftermath after.left after.written (bytes_returned bytes_of after.opener.returned)
+aftermath_of bytes_of after = aftermath after.left after.written after.refused (bytes_returned bytes_of after.opener.returned)

@@ -1,13 +1,14 @@
 -- How far a run came: what stands between two lines, in a line, and where the lines end. For the loop over the lines and
 -- the calls below it.
-use Rattle.std.specs.Prelude.{◌≡◌, ℕ, ◌+◌, ◌<◌, ◌≤◌, Option, None, Some, IfSome, Result, Ok, Err, List, [], ◌∷◌, ◌++◌, length, take}
+use Rattle.std.specs.Prelude.{◌≡◌, ℕ, ◌+◌, ◌-◌, ◌<◌, ◌≤◌, Option, None, Some, IfSome, Result, Ok, Err, List, [], ◌∷◌, ◌++◌, length, take}
 use Rattle.std.specs.Io.KnownBytes.{append_known, prepend_known}
 use Rattle.model_geometry.specs.declared.kinds.LayoutKind.{LayoutKind}
 use Rattle.ram_text.specs.Lines.{HasNoFeed}
 use Rattle.ram_text.specs.Script.{Reads}
+use Rattle.ram_outside.specs.Sink.{length_with}
 use Rattle.ram_outside.specs.declared.sink.Sink.{Ghosts as Sinks}
 use Rattle.ram_outside.specs.declared.conversation.Conversation.{Ghosts as Conversations}
-use Rattle.ram_text.specs.Dialogue.{reader_of, talk_of, due_in}
+use Rattle.ram_text.specs.Dialogue.{reader_of, sink_of, talk_of, due_in}
 use Rattle.ram_text.specs.declared.dialogue.Dialogue.{Dialogue}
 use Rattle.ram_text.specs.declared.lines.TheConstants.{SCRIPT_LIMIT}
 use Rattle.ram_report.specs.declared.printing.LastLine.{LastLine}
@@ -60,11 +61,13 @@ pub record IsTallied {first : Beginning} (far : SoFar first) (tally : Tally) : T
   pub answered : tally.answered ≡ answered_in far.events
   pub counts : tally.counts ≡ counts_in far.events
 
--- What is known of the script and the report: the bytes that came and are not taken yet, what is left to come, what is written and gathered, and how many bytes and lines were taken.
+-- What is known of the script and the report: the bytes that came and are not taken yet, what is left to come, what is written and
+-- gathered, how many bytes there would be with what the sink refused, and how many bytes and lines were taken.
 pub record View : Type 0 where
   pub buffered : List ℕ
   pub left : Option (List ℕ)
   pub due : Option (List ℕ)
+  pub refused : Option ℕ
   pub taken : ℕ
   pub tally : Tally
 
@@ -79,6 +82,7 @@ module _ {T K : Type 0} (talks : Conversations T K) (sinks : Sinks K) where
     buffered = (reader_of dialogue).buffered;
     left = talks.left (talk_of dialogue);
     due = due_in talks sinks dialogue;
+    refused = sinks.refused (sink_of talks dialogue);
     taken = (reader_of dialogue).taken;
     tally = tally;
   }
@@ -144,11 +148,28 @@ abbrev pub IsUnended : {first : Beginning} → SoFar first → View → Ending �
 IsUnended far view (Err stopped.SourceFault) = HasNoFeed view.buffered × (unread view ≡ Some far.rest)
 IsUnended far view _ = Unit {0}
 
+-- the text of the newest line's answer
+abbrev pub newest_text : List AnsweredLine → List ℕ
+newest_text [] = []
+newest_text (event ∷ events) = line_text (length events + 1) event.step.reply event.step.data_in
+
+-- Where it is known what the sink refused last: it was offered all answers, but perhaps for an end of the newest one, of which it was
+-- offered a byte at least. So no line was answered after the call that failed.
+abbrev pub IsOffered : {first : Beginning} → SoFar first → Option ℕ → Type 0
+IsOffered {first} far refused =
+    IfSome refused (λ offered. length (first.report ++ report_text far.events) ≤ offered + (length (newest_text far.events) - 1))
+
+-- where the sink failed, it was offered the answers
+abbrev pub IsRefused : {first : Beginning} → SoFar first → View → Ending → Type 0
+IsRefused far view (Err stopped.SinkFault) = IsOffered far view.refused
+IsRefused far view _ = Unit {0}
+
 -- The answers so far are due and counted, and where the lines stop between two of them the last line says why.
 pub record IsStoppedAt {first : Beginning} (far : SoFar first) (view : View) (ending : Ending) : Type 0 where
   pub due_is : IsDue far view.due
   pub last_is : IsLastIfAny far (last_line view.tally ending)
   pub unended : IsUnended far view ending
+  pub offered : IsRefused far view ending
   pub tallied : IsTallied far view.tally
 
 -- why the search for the next line may stop the run
@@ -206,11 +227,12 @@ pub record EndsBetween (first : Beginning) (stands : State → Type 0) (view : V
   pub stands_now : stands far.now
   pub stopped_at : IsStoppedAt far view ending
 
--- the sink failed: the beginning of the answers is due
+-- the sink failed: the beginning of the answers is due, and they were offered to it
 pub record EndsCutOff (first : Beginning) (stands : State → Type 0) (view : View) : Type 0 where
   pub far : SoFar first
   pub stands_now : stands far.now
   pub part : IsDueInPart far view.due
+  pub offered : IsOffered far view.refused
 
 -- the next line was not done whole, and is not told
 pub record EndsInLine (first : Beginning) (stands : State → Type 0) (view : View) (outcome : Outcome) : Type 0 where
@@ -245,10 +267,18 @@ pub record IsReplied (old new : View) (reply : Reply) (data_in : List ℕ) : Typ
   pub grew : new.due ≡ append_known old.due (line_text (old.tally.lines + 1) reply data_in)
   pub tally_is : new.tally ≡ tally_with old.tally reply
 
+-- the beginning of a reply's text went to the end of what is due, and a byte of it at least was offered to the sink, which failed
+pub record IsToldInPart (old new : View) (text : List ℕ) : Type 0 where
+  pub n : ℕ
+  pub grew : new.due ≡ append_known old.due (take n text)
+  pub offered : ℕ
+  pub some : 0 < offered
+  pub refused_is : new.refused ≡ length_with old.due offered
+
 -- What telling the outcome of a line may do.
 abbrev pub TellRule : View → View → List ℕ → Outcome → Ending → Type 0
 TellRule old new data_in (Err why) result = (result ≡ Err why) × (new ≡ old)
 TellRule old new data_in (Ok reply) (Ok done) = IsReplied old new reply data_in
 TellRule old new data_in (Ok reply) (Err stopped.SinkFault) =
-    (n : ℕ) × (new.due ≡ append_known old.due (take n (line_text (old.tally.lines + 1) reply data_in)))
+    IsToldInPart old new (line_text (old.tally.lines + 1) reply data_in)
 TellRule old new data_in (Ok reply) (Err why) = ⊥

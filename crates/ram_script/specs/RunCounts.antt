@@ -1,6 +1,7 @@
 -- The counts of failures of source, sink and image over a run. For the calls of the run and its main clause.
 use Rattle.std.specs.Prelude.{◌≡◌, ℕ, Result, Ok, Err}
 use Rattle.model_counts.specs.Counts.{Rose}
+use Rattle.ram_outside.specs.Sink.{FailsOnce}
 use Rattle.ram_outside.specs.declared.sink.Sink.{Ghosts as Sinks}
 use Rattle.ram_outside.specs.declared.conversation.Conversation.{Ghosts as Conversations}
 use Rattle.ram_text.specs.Dialogue.{sink_of, talk_of}
@@ -37,10 +38,10 @@ pub record OnlySourceRose (before after : Counts) : Type 0 where
   pub sink : after.sink ≡ before.sink
   pub image : after.image ≡ before.image
 
--- the sink failed, and nothing else
+-- the sink failed, once, and nothing else
 pub record OnlySinkRose (before after : Counts) : Type 0 where
   pub source : after.source ≡ before.source
-  pub sink : Rose before.sink after.sink
+  pub sink : FailsOnce before.sink after.sink
   pub image : after.image ≡ before.image
 
 -- the image failed, and nothing else
@@ -49,16 +50,16 @@ pub record OnlyImageRose (before after : Counts) : Type 0 where
   pub sink : after.sink ≡ before.sink
   pub image : Rose before.image after.image
 
--- the source failed, and then the sink
+-- the source failed, and then the sink, once
 pub record SourceAndSinkRose (before after : Counts) : Type 0 where
   pub source : Rose before.source after.source
-  pub sink : Rose before.sink after.sink
+  pub sink : FailsOnce before.sink after.sink
   pub image : after.image ≡ before.image
 
--- the image failed, and then the sink
+-- the image failed, and then the sink, once
 pub record ImageAndSinkRose (before after : Counts) : Type 0 where
   pub source : after.source ≡ before.source
-  pub sink : Rose before.sink after.sink
+  pub sink : FailsOnce before.sink after.sink
   pub image : Rose before.image after.image
 
 -- The count that tells why a run ends rose, and no other.
@@ -73,9 +74,9 @@ abbrev pub StopCounts : {X : Type 0} → Counts → Counts → Result X Stopped 
 StopCounts before after (Ok x) = SameCounts before after
 StopCounts before after (Err why) = WhyCounts before after why
 
--- the sink's count, where nothing else can fail: it rose exactly where the sink failed
+-- the sink's count, where nothing else can fail: it rose exactly where the sink failed, by one
 abbrev pub SinkCount : ℕ → ℕ → Result (Unit {0}) Stopped → Type 0
-SinkCount faults faults' (Err stopped.SinkFault) = Rose faults faults'
+SinkCount faults faults' (Err stopped.SinkFault) = FailsOnce faults faults'
 SinkCount faults faults' _ = faults' ≡ faults
 
 -- the same where the outcome of a line is told: one that ends the run is not printed

@@ -1,7 +1,7 @@
 //! The end of a report, and the status that tells how the run ended.
 ghost use Rattle.std.specs.Prelude.{◌≡◌, ◌-◌, ◌<◌, ◌^◌};
-ghost use Rattle.ram_text.specs.Dialogue.{HasSameEnds, AsksNothing, due_in, sink_of};
-ghost use Rattle.ram_script.specs.Endings.{status_of, sink_view, IsOfRun, LastLineRule, FinishRule};
+ghost use Rattle.ram_text.specs.Dialogue.{HasSameEnds, AsksNothing, due_in, shown_of};
+ghost use Rattle.ram_script.specs.Endings.{status_of, IsOfRun, LastLineRule, FinishRule};
 
 use crate::state::Tally;
 use ram_machine::Stopped;
@@ -47,10 +47,8 @@ pub fn finish<T: Conversation>(
     ensures ends { HasSameEnds dialogue.old dialogue.new }
     ensures nothing { AsksNothing T.Conversation dialogue.old dialogue.new }
     ensures rule { FinishRule (due_in T.Conversation T.Sink.Sink dialogue.old)
-        (sink_view (T.Sink.written (sink_of T.Conversation dialogue.old))
-        (T.Sink.faults (sink_of T.Conversation dialogue.old)))
-        (sink_view (T.Sink.written (sink_of T.Conversation dialogue.new))
-        (T.Sink.faults (sink_of T.Conversation dialogue.new))) tally ending result }
+        (shown_of T.Conversation T.Sink.Sink dialogue.old)
+        (shown_of T.Conversation T.Sink.Sink dialogue.new) tally ending result }
 {
     match print_ending(dialogue, tally, ending) {
         Print::Failed => return Status::SinkFault,
@@ -73,8 +71,8 @@ fn print_ending<T: Conversation>(
     ensures nothing { AsksNothing T.Conversation dialogue.old dialogue.new }
     ensures rule { LastLineRule (due_in T.Conversation T.Sink.Sink dialogue.old)
         (due_in T.Conversation T.Sink.Sink dialogue.new)
-        (T.Sink.faults (sink_of T.Conversation dialogue.old))
-        (T.Sink.faults (sink_of T.Conversation dialogue.new)) tally ending result }
+        (shown_of T.Conversation T.Sink.Sink dialogue.old)
+        (shown_of T.Conversation T.Sink.Sink dialogue.new) tally ending result }
 {
     let line = tally.lines + 1;
     let last = match ending {

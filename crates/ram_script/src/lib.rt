@@ -34,10 +34,10 @@
 //!   run, what was written is exactly the text of its answers, and the next line is a step in which the image failed; the image
 //!   handed back is that of the state after it.
 //! - SinkFault: The lines so far are a run. What was written is the beginning of the text due: the answers, with a last line or
-//!   without. Of the text that was due before the last of these lines at most 65,536 bytes are missing (`nearly`). And one of
-//!   three stood behind (`StoodBehind`): nothing else failed, and the image handed back is that of the last state; the source
-//!   failed too, and every whole line that it gave is answered; the image failed too, in the next line, and the image handed back
-//!   is that of the state after it.
+//!   without. Of the text that was due before the last of these lines at most 65,536 bytes are missing (`nearly`). The sink failed
+//!   once, and none of the lines was answered after that (`IsOffered`). And one of three stood behind (`StoodBehind`): nothing else
+//!   failed, and the image handed back is that of the last state; the source failed too, and every whole line that it gave is
+//!   answered; the image failed too, in the next line, and the image handed back is that of the state after it.
 //!
 //! In every row the lines of the run end within the first 67,108,864 bytes of the script (`SoFar.within`). A step by its line,
 //! and the laws of runs are those of `ram_machine`; its head tells them.

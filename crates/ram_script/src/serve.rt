@@ -165,7 +165,7 @@ pub fn serve<D: Drive, T: Conversation>(
         (D.Image.bytes image)
         → StandsWith first
         (aftermath (T.left (talk_of dialogue.new)) (T.Sink.written (sink_of T.Conversation dialogue.new))
-        (D.Image.bytes result.0))
+        (T.Sink.refused (sink_of T.Conversation dialogue.new)) (D.Image.bytes result.0))
         (counts_with T.Conversation T.Sink.Sink dialogue.old (D.Image.faults image))
         (counts_with T.Conversation T.Sink.Sink dialogue.new (D.Image.faults result.0)) result.1 }
     ensures asks { (first : Beginning) → first.kind ≡ rooms.drive.kind

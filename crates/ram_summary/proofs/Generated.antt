@@ -30,7 +30,7 @@ end_count f f' (Err stopped.LineTooLong) counts = counts.image
 end_count f f' (Err stopped.ScriptTooLong) counts = counts.image
 end_count f f' (Err stopped.NotADisc) counts = counts.image
 end_count f f' (Err stopped.SourceFault) counts = never_rose counts.source
-end_count f f' (Err stopped.SinkFault) counts = never_rose counts.sink
+end_count f f' (Err stopped.SinkFault) counts = absurd (omega (arith, counts.sink))
 end_count f f' (Err stopped.ImageFault) counts = counts.image
 
 -- the lines did not come to the script's end, and the status tells why

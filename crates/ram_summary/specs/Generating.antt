@@ -91,6 +91,7 @@ module _ {K O I : Type 0} (heard : Heard) (sinks : Sinks K) (openers : Openers O
   beside report opener = record {
     left = heard.left;
     written = sinks.written report;
+    refused = sinks.refused report;
     asked = heard.asked;
     opener = opener_view (openers.next opener) (openers.returned opener) (openers.asked opener) (openers.faults opener);
     counts = counts_of heard.faults (sinks.faults report) (openers.faults opener);

@@ -1,6 +1,6 @@
 -- What a dialogue shows of its conversation, and what its calls do: for the dialogue, and for the loop over the lines of a run.
 use Rattle.std.specs.Prelude.{◌≡◌, ◌⊎◌, ℕ, Option, List, [], Result, Ok, Err}
-use Rattle.model_counts.specs.Counts.{Rose}
+use Rattle.ram_outside.specs.Sink.{FailsOnce, SinkShown, length_with, sink_shown}
 use Rattle.ram_outside.specs.declared.sink.Sink.{Ghosts as Sinks}
 use Rattle.ram_outside.specs.Conversation.{AsksOnly}
 use Rattle.ram_outside.specs.declared.conversation.Conversation.{Ghosts as Conversations}
@@ -50,12 +50,21 @@ module _ {T K : Type 0} (talks : Conversations T K) (sinks : Sinks K) where
   abbrev pub due_in : Dialogue T K → Option (List ℕ)
   due_in dialogue = due (sinks.written (sink_of talks dialogue)) (gathered_of dialogue)
 
+  -- what its sink shows
+  abbrev pub shown_of : Dialogue T K → SinkShown
+  shown_of dialogue = sink_shown (sinks.written (sink_of talks dialogue)) (sinks.refused (sink_of talks dialogue))
+      (sinks.faults (sink_of talks dialogue))
+
+  -- The sink failed, once, and what it refused is the end of what was due: all of that was offered to it.
+  pub record RefusesDue (old new : Dialogue T K) : Type 0 where
+    pub refused : sinks.refused (sink_of talks new) ≡ length_with (due_in old) 0
+    pub count : FailsOnce (sinks.faults (sink_of talks old)) (sinks.faults (sink_of talks new))
+
   -- All that is due was handed over, or a whole line is held; or the sink failed. What is due stays.
   abbrev pub ShowRule : Dialogue T K → Dialogue T K → Result (Unit {0}) SinkFailed → Type 0
   ShowRule old new (Ok done) = (due_in new ≡ due_in old) × (HoldsLine (reader_of old) ⊎ (gathered_of new ≡ []))
       × (sinks.faults (sink_of talks new) ≡ sinks.faults (sink_of talks old))
-  ShowRule old new (Err failed) =
-      (due_in new ≡ due_in old) × Rose (sinks.faults (sink_of talks old)) (sinks.faults (sink_of talks new))
+  ShowRule old new (Err failed) = (due_in new ≡ due_in old) × RefusesDue old new
 
   -- Whenever more was asked for, all that is due was written, and no whole line had come.
   abbrev pub AsksShown : Dialogue T K → Dialogue T K → Type 0
@@ -72,7 +81,7 @@ module _ {T K : Type 0} (talks : Conversations T K) (sinks : Sinks K) where
   pub record StopsAsking (old new : Dialogue T K) : Type 0 where
     pub nothing : AsksNothing talks old new
     pub due : due_in new ≡ due_in old
-    pub count : Rose (sinks.faults (sink_of talks old)) (sinks.faults (sink_of talks new))
+    pub refuses : RefusesDue old new
 
   -- What the search for the next line may do, by its answer.
   abbrev pub SearchRule : Dialogue T K → Dialogue T K → Result NextLine SinkFailed → Type 0
@@ -83,12 +92,12 @@ module _ {T K : Type 0} (talks : Conversations T K) (sinks : Sinks K) where
   pub record Tells (old new : Dialogue T K) (text : List ℕ) (answer : Print) : Type 0 where
     pub ends : HasSameEnds old new
     pub nothing : AsksNothing talks old new
-    pub prints : PrintRule (due_in old) (due_in new)
+    pub prints : PrintRule (sinks.refused (sink_of talks new)) (due_in old) (due_in new)
         (sinks.faults (sink_of talks old)) (sinks.faults (sink_of talks new)) text answer
 
   -- What is gathered was handed over, or a part of it, and nothing was asked.
   pub record HandsOverAll (old new : Dialogue T K) (answer : Print) : Type 0 where
     pub ends : HasSameEnds old new
     pub nothing : AsksNothing talks old new
-    pub rule : FlushRule (due_in old) (due_in new) (gathered_of new)
+    pub rule : FlushRule (sinks.refused (sink_of talks new)) (due_in old) (due_in new) (gathered_of new)
         (sinks.faults (sink_of talks old)) (sinks.faults (sink_of talks new)) answer

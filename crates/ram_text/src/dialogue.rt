@@ -74,7 +74,8 @@ impl<'a, T: Conversation> Dialogue<'a, T> {
     ///
     /// - `AsksShown`: Whenever more was asked for, all that is due was written, and no whole line had come.
     /// - `LooksOn`: The next line as by `LineReader::next_line`. What is due stays, and the sink counted nothing.
-    /// - `StopsAsking`: The sink's count rose before more was asked for. Nothing was asked for, and what is due stays.
+    /// - `StopsAsking`: The sink failed before more was asked for, and was offered all that is due. Nothing was asked for, and what is due
+    ///   stays.
     ///
     /// # Answers
     ///

@@ -1,6 +1,6 @@
 //! A sink in memory. It touches its own bytes alone.
 ghost use Rattle.std.specs.Prelude.{◌≡◌, ℕ, ◌<◌, ◌≤◌, [], Some, IsOk, OnOk, length};
-ghost use Rattle.ram_outside.specs.Sink.{PutRule};
+ghost use Rattle.ram_outside.specs.Sink.{PutRule, sink_shown};
 ghost use Rattle.ram_outside.specs.Calls.{no_calls};
 ghost use Rattle.ram_outside.specs.Memory.{PutsExactly};
 
@@ -14,6 +14,7 @@ use std::marker::Model;
 pub struct MemSink {
     bytes: Vec<u8>,
     piece: usize,
+    refused: usize,
     calls: Calls,
 }
 
@@ -27,6 +28,7 @@ impl Model for MemSink {
       written = s.bytes.items;
       room = vec_capacity s.bytes;
       piece = s.piece;
+      refused = s.refused;
       calls = s.calls;
     } };
 
@@ -40,11 +42,13 @@ impl MemSink {
         requires { 0 < piece }
         ensures written { result.written ≡ [] }
         ensures piece { result.piece ≡ piece }
+        ensures refused { result.refused ≡ 0 }
         ensures calls { result.calls ≡ no_calls failing.items }
     {
         MemSink {
             bytes: Vec::new(alloc),
             piece,
+            refused: 0,
             calls: Calls::new(failing),
         }
     }
@@ -54,6 +58,13 @@ impl MemSink {
         ensures { result.now ≡ self.now.written }
     {
         self.bytes.as_slice()
+    }
+
+    /// How many bytes would have been written, had the last call that failed taken its whole piece; 0 where none failed.
+    pub fn refused(&self) -> usize
+        ensures { result ≡ self.now.refused }
+    {
+        self.refused
     }
 
     /// How many calls of `put` were made, up to 2^64 - 1.
@@ -82,6 +93,8 @@ impl MemSink {
 impl Sink for MemSink {
     ghost written = { λ s. Some s.written };
 
+    ghost refused = { λ s. Some s.refused };
+
     ghost faults = { λ s. s.calls.faults };
 
     /// # Clauses
@@ -90,11 +103,12 @@ impl Sink for MemSink {
     ///   written then.
     fn put(&mut self, piece: &[u8]) -> Put
         requires { 0 < length piece.now }
-        ensures rule { PutRule (Some self.old.written) (Some self.new.written)
-            self.old.calls.faults self.new.calls.faults piece.now result }
+        ensures rule { PutRule (sink_shown (Some self.old.written) (Some self.old.refused) self.old.calls.faults)
+            (sink_shown (Some self.new.written) (Some self.new.refused) self.new.calls.faults) piece.now result }
         ensures exactly { PutsExactly self.old self.new piece.now result }
     {
         if self.calls.next_fails() {
+            self.refused = self.bytes.len() + piece.len();
             return Put::Failed;
         }
         let count = self.piece.min(piece.len());
@@ -102,6 +116,7 @@ impl Sink for MemSink {
             Ok(()) => Put::Took(count),
             Err(_) => {
                 self.calls.add_faults(1);
+                self.refused = self.bytes.len() + piece.len();
                 Put::Failed
             }
         }

@@ -13,18 +13,19 @@ pub returns-clause-run : goal.returns-clause-run
 returns-clause-run g c first kind known =
     let left = g.T.Conversation.left (talk_of c.serve-image.new.dialogue) in
     let written = g.T.Sink.Sink.written (sink_of g.T.Conversation c.serve-image.new.dialogue) in
+    let refused = g.T.Sink.Sink.refused (sink_of g.T.Conversation c.serve-image.new.dialogue) in
     let image = g.O.Image.Image.bytes c.serve-image.result.0 in
     let begins = begins_known g.O.Image.Image.bytes first (around g.T.Conversation g.T.Sink.Sink g.O.Opener c.args.talk.now c.args.opener.now) g.O.Opener.returned_known c.in-Image.image known c.in-Image.ensures.next in
     let leaves = rw (c.new-dialogue.ensures.talk_is, c.in-Image.ensures.unfailed) at (c.serve-image.ensures.leaves first) in
-    inl (renamed first left _ written _ image _
+    inl (renamed first left _ written _ image _ refused _
     (counts_of (g.T.Conversation.faults c.args.talk.now) (g.T.Sink.Sink.faults (g.T.Conversation.report c.args.talk.now)) (g.O.Opener.faults c.args.opener.now)) _
     (counts_of (g.T.Conversation.faults (talk_of c.serve-image.new.dialogue)) (g.T.Sink.Sink.faults (sink_of g.T.Conversation c.serve-image.new.dialogue)) (g.O.Opener.faults c.close.new.self)) _
-    c.serve-image.result.1 (search rules) (search rules)
+    c.serve-image.result.1 (search rules) (search rules) (search rules)
     (handed_back g.O.Image.Image.bytes g.O.Opener.returned_known c.serve-image.result.0 (g.O.Opener.returned c.close.new.self) known.returned_known_is c.close.ensures.returned)
     refl (search rules)
     (rw (c.close.ensures.count, c.in-Image.ensures.count)
     (stands_there (g.T.Conversation.faults c.args.talk.now) (g.T.Conversation.faults (talk_of c.serve-image.new.dialogue)) (g.T.Sink.Sink.faults (g.T.Conversation.report c.args.talk.now)) (g.T.Sink.Sink.faults (sink_of g.T.Conversation c.serve-image.new.dialogue))
-    (g.O.Opener.faults c.args.opener.now) (g.O.Image.Image.faults c.serve-image.result.0) first (aftermath left written image) c.serve-image.result.1 (leaves kind begins))))
+    (g.O.Opener.faults c.args.opener.now) (g.O.Image.Image.faults c.serve-image.result.0) first (aftermath left written refused image) c.serve-image.result.1 (leaves kind begins))))
 
 pub returns-clause-talks : goal.returns-clause-talks
 returns-clause-talks g c first kind known =

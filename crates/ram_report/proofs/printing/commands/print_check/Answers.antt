@@ -6,7 +6,7 @@ use Rattle.ram_report.proofs.Prints.{put_then, cut_first}
 use Rattle.ram_report.proofs.printing.commands.print_check.Goals as goal
 
 pub returns : goal.returns
-returns g c = put_then _ _ _ _ _ _ (codes " check ") (sense_code c.args.sense.now ++ (info_words c.args.sense.now.info ++ codes "\n")) c.in_ok-put.ensures _ c.print_sense.ensures
+returns g c = put_then _ _ _ _ _ _ _ (codes " check ") (sense_code c.args.sense.now ++ (info_words c.args.sense.now.info ++ codes "\n")) c.in_ok-put.ensures _ c.print_sense.ensures
 
 pub returns-in_err-put : goal.returns-in_err-put
 returns-in_err-put g c =

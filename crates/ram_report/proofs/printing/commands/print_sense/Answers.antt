@@ -9,8 +9,8 @@ use Rattle.ram_report.proofs.printing.commands.print_sense.Goals as goal
 pub returns : goal.returns
 returns g c =
     let rest = info_words c.args.sense.now.info ++ codes "\n" in
-    renamed _ _ _ _ c.digits_of.result (sense_code c.args.sense.now) rest _ c.digits_of.ensures
-    (put_then _ _ _ _ _ _ c.digits_of.result rest c.in_ok-put.ensures _ c.print_info.ensures)
+    renamed _ _ _ _ _ c.digits_of.result (sense_code c.args.sense.now) rest _ c.digits_of.ensures
+    (put_then _ _ _ _ _ _ _ c.digits_of.result rest c.in_ok-put.ensures _ c.print_info.ensures)
 
 pub returns-in_err-put : goal.returns-in_err-put
 returns-in_err-put g c =

@@ -23,7 +23,7 @@ pub returns : goal.returns
 returns g c =
     let head = codes "sector " ++ decimal c.args.lba in
     let hex = encode_lower c.args.bytes.now in
-    put_four _ _ _ _ _ _ _ _ _ _ head (codes " hex ") hex (codes "\n") c.in_ok-print_labelled.ensures c.in_ok-put.ensures c.in_ok-put_hex.ensures _ c.put-2.ensures
+    put_four _ _ _ _ _ _ _ _ _ _ _ head (codes " hex ") hex (codes "\n") c.in_ok-print_labelled.ensures c.in_ok-put.ensures c.in_ok-put_hex.ensures _ c.put-2.ensures
 
 pub returns-in_err-put_hex : goal.returns-in_err-put_hex
 returns-in_err-put_hex g c =

@@ -9,7 +9,7 @@ pub returns : goal.returns
 returns g c =
     let some : eqb (length c.args.reply.now) 0 ≡ false = cc (c.is_empty.ensures, c.if-is_empty.false) in
     let bytes = c.args.reply.now in
-    rw some (put_then _ _ _ _ _ _ (codes "data " ++ decimal (length bytes)) (codes " " ++ encode_lower bytes ++ codes "\n") c.in_ok-print_labelled.ensures _ c.print_data_digits.ensures)
+    rw some (put_then _ _ _ _ _ _ _ (codes "data " ++ decimal (length bytes)) (codes " " ++ encode_lower bytes ++ codes "\n") c.in_ok-print_labelled.ensures _ c.print_data_digits.ensures)
 
 pub returns-in_err-print_labelled : goal.returns-in_err-print_labelled
 returns-in_err-print_labelled g c =

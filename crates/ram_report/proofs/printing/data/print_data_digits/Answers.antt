@@ -14,7 +14,7 @@ returns-in_err-put g c =
 pub returns : goal.returns
 returns g c =
     let hex = encode_lower c.args.reply.now in
-    put_then _ _ _ _ _ _ (codes " " ++ hex) (codes "\n") (put_both _ _ _ _ _ _ (codes " ") hex c.in_ok-put.ensures c.in_ok-print_digits.ensures) _ c.put-2.ensures
+    put_then _ _ _ _ _ _ _ (codes " " ++ hex) (codes "\n") (put_both _ _ _ _ _ _ (codes " ") hex c.in_ok-put.ensures c.in_ok-print_digits.ensures) _ c.put-2.ensures
 
 pub returns-in_err-print_digits : goal.returns-in_err-print_digits
 returns-in_err-print_digits g c =

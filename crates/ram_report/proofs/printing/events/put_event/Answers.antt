@@ -5,7 +5,7 @@ use Rattle.ram_report.proofs.Prints.{put_then, cut_first}
 use Rattle.ram_report.proofs.printing.events.put_event.Goals as goal
 
 pub returns : goal.returns
-returns g c = put_then _ _ _ _ _ _ (numbered c.args.number (event_words c.args.event.now)) (found_text c.args.event.now c.args.found.now) c.in_ok-put_event_line.ensures _ c.print_found.ensures
+returns g c = put_then _ _ _ _ _ _ _ (numbered c.args.number (event_words c.args.event.now)) (found_text c.args.event.now c.args.found.now) c.in_ok-put_event_line.ensures _ c.print_found.ensures
 
 pub returns-in_err-put_event_line : goal.returns-in_err-put_event_line
 returns-in_err-put_event_line g c =

@@ -6,7 +6,7 @@ use Rattle.ram_report.proofs.Prints.{put_then, cut_first}
 use Rattle.ram_report.proofs.printing.events.put_event_line.Goals as goal
 
 pub returns : goal.returns
-returns g c = put_then _ _ _ _ _ _ (decimal c.args.number) (codes " " ++ event_words c.args.event.now ++ codes "\n") c.in_ok-put_number.ensures _ c.print_event_words.ensures
+returns g c = put_then _ _ _ _ _ _ _ (decimal c.args.number) (codes " " ++ event_words c.args.event.now ++ codes "\n") c.in_ok-put_number.ensures _ c.print_event_words.ensures
 
 pub returns-in_err-put_number : goal.returns-in_err-put_number
 returns-in_err-put_number g c =

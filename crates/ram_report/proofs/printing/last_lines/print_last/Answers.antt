@@ -2,4 +2,4 @@
 use Rattle.ram_report.proofs.printing.last_lines.print_last.Goals as goal
 
 pub returns : goal.returns
-returns g c = c.printed.ensures _ _ _ _ _ c.put_last.ensures
+returns g c = c.printed.ensures _ _ _ _ _ _ c.put_last.ensures

@@ -5,7 +5,7 @@ use Rattle.ram_report.proofs.Prints.{put_then, cut_first}
 use Rattle.ram_report.proofs.printing.parts.print_counted.Goals as goal
 
 pub returns : goal.returns
-returns g c = put_then _ _ _ _ _ _ (c.args.words.now ++ decimal c.args.number) (codes "\n") c.in_ok-print_labelled.ensures _ c.put.ensures
+returns g c = put_then _ _ _ _ _ _ _ (c.args.words.now ++ decimal c.args.number) (codes "\n") c.in_ok-print_labelled.ensures _ c.put.ensures
 
 pub returns-in_err-print_labelled : goal.returns-in_err-print_labelled
 returns-in_err-print_labelled g c =

@@ -5,7 +5,7 @@ use Rattle.ram_report.proofs.Prints.{put_then, cut_first}
 use Rattle.ram_report.proofs.printing.parts.print_labelled.Goals as goal
 
 pub returns : goal.returns
-returns g c = put_then _ _ _ _ _ _ (c.args.words.now) (decimal c.args.number) c.in_ok-put.ensures _ c.put_number.ensures
+returns g c = put_then _ _ _ _ _ _ _ (c.args.words.now) (decimal c.args.number) c.in_ok-put.ensures _ c.put_number.ensures
 
 pub returns-in_err-put : goal.returns-in_err-put
 returns-in_err-put g c =

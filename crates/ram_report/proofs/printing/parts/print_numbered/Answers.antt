@@ -5,7 +5,7 @@ use Rattle.ram_report.proofs.Prints.{put_then, cut_first}
 use Rattle.ram_report.proofs.printing.parts.print_numbered.Goals as goal
 
 pub returns : goal.returns
-returns g c = put_then _ _ _ _ _ _ (decimal c.args.number) (c.args.words.now) c.in_ok-put_number.ensures _ c.put.ensures
+returns g c = put_then _ _ _ _ _ _ _ (decimal c.args.number) (c.args.words.now) c.in_ok-put_number.ensures _ c.put.ensures
 
 pub returns-in_err-put_number : goal.returns-in_err-put_number
 returns-in_err-put_number g c =

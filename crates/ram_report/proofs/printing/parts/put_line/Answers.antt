@@ -5,7 +5,7 @@ use Rattle.ram_report.proofs.Prints.{put_then, cut_first}
 use Rattle.ram_report.proofs.printing.parts.put_line.Goals as goal
 
 pub returns : goal.returns
-returns g c = put_then _ _ _ _ _ _ (c.args.text.now) (codes "\n") c.in_ok-put.ensures _ c.put-2.ensures
+returns g c = put_then _ _ _ _ _ _ _ (c.args.text.now) (codes "\n") c.in_ok-put.ensures _ c.put-2.ensures
 
 pub returns-in_err-put : goal.returns-in_err-put
 returns-in_err-put g c =
