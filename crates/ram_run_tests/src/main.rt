@@ -6,6 +6,7 @@
 //! more to be told. The README lists them. Other lines have the short forms of `shorthand`.
 #![tactic(auto)]
 
+mod asking;
 mod failing;
 mod generated;
 mod orders;

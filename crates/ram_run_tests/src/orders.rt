@@ -50,6 +50,7 @@ fn change_runs(row: &mut Row, words: &[&str]) -> bool {
                 number: call_of(number),
             },
         ),
+        ["asks"] => row.runs = Runs::Asking,
         ["each", of, more_than] => {
             row.runs = Runs::EachFailure {
                 of: object_of(of),

@@ -1,4 +1,5 @@
 //! A row: what is run, over which image, and what is told of it.
+use crate::asking::answer_asking;
 use crate::failing::answer_each;
 use crate::generated::answer_generated;
 use crate::orders::obey;
@@ -14,6 +15,8 @@ pub enum Runs {
     Script,
     /// The script, once for each call of this object, which fails there; it has more calls than this.
     EachFailure { of: Outside, more_than: u64 },
+    /// The script, in a conversation that keeps how it stood whenever more was asked for.
+    Asking,
     /// The words of the program, and no script.
     Words,
     /// The script that is drawn from this number, and its summary.
@@ -105,6 +108,7 @@ fn ran(alloc: Global, row: &Row) -> Result<Ran, AllocError> {
 pub fn answer_row(alloc: Global, row: &Row, answer: &mut String) -> Result<Vec<u8>, AllocError> {
     match row.runs {
         Runs::EachFailure { of, more_than } => answer_each(alloc, row, of, more_than, answer)?,
+        Runs::Asking => answer_asking(alloc, row, answer)?,
         Runs::Generated { number } => answer_generated(alloc, number, answer)?,
         _ => {
             let ran = ran(alloc, row)?;

@@ -93,6 +93,15 @@ fn run_program<T: Conversation, O: Opener>(
     Ok(run(rooms, words, talk, opener))
 }
 
+/// Runs the script of a conversation over the image that the opener gives.
+pub fn run_in<T: Conversation, O: Opener>(
+    alloc: Global,
+    talk: &mut T,
+    opener: &mut O,
+) -> Result<Status, AllocError> {
+    run_program(alloc, &WORDS, talk, opener)
+}
+
 /// Runs the words of the program over a script and the image that the opener gives.
 fn run_over(
     alloc: Global,
@@ -134,7 +143,7 @@ fn what_is_left(
 }
 
 /// A source of these bytes.
-fn source(
+pub fn source(
     alloc: Global,
     script: &[u8],
     piece: usize,
@@ -145,14 +154,18 @@ fn source(
 }
 
 /// A sink with room for the longest report.
-fn sink(alloc: Global, piece: usize, failure: Option<Failure>) -> Result<MemSink, AllocError> {
+pub fn sink(alloc: Global, piece: usize, failure: Option<Failure>) -> Result<MemSink, AllocError> {
     let mut report = MemSink::new(alloc, piece.max(1), failing(alloc, failure, Outside::Sink)?);
     report.reserve(REPORT_BYTES)?;
     Ok(report)
 }
 
 /// An opener of an image of these bytes, with room for those of a disc.
-fn opener(alloc: Global, image: &[u8], failure: Option<Failure>) -> Result<MemOpener, AllocError> {
+pub fn opener(
+    alloc: Global,
+    image: &[u8],
+    failure: Option<Failure>,
+) -> Result<MemOpener, AllocError> {
     let mut bytes = Vec::with_capacity(alloc, IMAGE_BYTES)?;
     bytes.extend_from_slice(image)?;
     let image = MemImage::new(bytes, failing(alloc, failure, Outside::Image)?);

@@ -1,6 +1,7 @@
 //! What is told of a run: its report, its exit status, and more where that is asked for.
 use crate::rows::{Row, Told};
 use crate::runs::{PIECE, Ran};
+use ram_machine::status::Status;
 use std::alloc::AllocError;
 use std::fmt::Write;
 
@@ -33,10 +34,15 @@ fn add_lines(told: Told, report: &str, answer: &mut String) -> Result<(), AllocE
     Ok(())
 }
 
+/// Adds the bytes of a report, and an exit status.
+pub fn add_text(report: &[u8], status: Status, answer: &mut String) -> Result<(), AllocError> {
+    let report = str::from_utf8(report).unwrap_or("no text\n");
+    writeln!(answer, "{report}exit status {}", status.exit_number())
+}
+
 /// Adds a report and an exit status.
 pub fn add_report(ran: &Ran, answer: &mut String) -> Result<(), AllocError> {
-    let report = str::from_utf8(&ran.report).unwrap_or("no text\n");
-    writeln!(answer, "{report}exit status {}", ran.status.exit_number())
+    add_text(&ran.report, ran.status, answer)
 }
 
 /// Adds the report of a run, as much as is told of it, and its exit status.
