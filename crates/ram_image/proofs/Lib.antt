@@ -1,3 +1,5 @@
+pub mod Moments
+pub mod CellMoments
 pub mod CellReads
 pub mod CellSteps
 pub mod ByteSteps

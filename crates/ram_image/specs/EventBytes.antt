@@ -10,6 +10,8 @@ use Rattle.model_medium.specs.declared.ReadEnd.TheVariants as reads
 use Rattle.model_medium.specs.declared.WriteEnd.{WriteEnd}
 use Rattle.model_medium.specs.declared.WriteEnd.TheVariants as writes
 use Rattle.model_image.specs.Writes.{with_state, dead_state, worn_bytes, bytes_left, StopsInBytes, IsBeforeOrAfter}
+use Rattle.ram_outside.specs.Past.{Moment}
+use Rattle.ram_image.specs.Moments.{PassesOnly}
 use Rattle.ram_medium.specs.Control.{Told, Fails, Arms}
 use Rattle.ram_medium.specs.declared.control.FailEnd.{FailEnd}
 use Rattle.ram_medium.specs.declared.control.FailEnd.TheVariants as fails
@@ -70,3 +72,11 @@ FailBytes block before after fails.Failed =
 abbrev pub ToldBytes : Option (List ℕ) → Option (List ℕ) → Told → Type 0
 ToldBytes before after (Fails block end) = FailBytes block before after end
 ToldBytes before after Arms = after ≡ before
+
+-- At each moment within an event the image is one that its failure could leave in this event.
+abbrev pub PastAt : Machine → ℕ → Option (List ℕ) → (past past' : Option (List Moment)) → Event → Type 0
+PastAt old total before past past' (Read block into into' how) = PassesOnly (MayWearBytes (is_killed block old.arms) block) before past past'
+PastAt old total before past past' (Write block block_data how) =
+    PassesOnly (MayLeaveBytes (is_killed block old.arms) total block block_data) before past past'
+PastAt old total before past past' PowerOn = past' ≡ past
+PastAt old total before past past' PowerOff = past' ≡ past

@@ -1,4 +1,5 @@
 pub mod CellCalls
+pub mod Moments
 pub mod Press
 pub mod EventBytes
 pub mod Medium

@@ -4,9 +4,10 @@
 ghost use Rattle.std.specs.Prelude.{◌≡◌, ◌+◌, ◌*◌, ◌<◌, ◌≤◌, true, IfSome, length, slice_index};
 ghost use Rattle.std.specs.Option.{ForSome};
 ghost use Rattle.model_image.specs.Cells.{image_len, cell_in};
-ghost use Rattle.model_image.specs.Writes.{torn_state, dead_state};
+ghost use Rattle.model_image.specs.Writes.{torn_state, dead_state, with_state, worn_bytes, PutsInBlock, StopsInBytes, IsBeforeOrAfter};
 ghost use Rattle.model_medium.specs.Cells.{Torn, Dead};
 ghost use Rattle.ram_bytes.specs.declared.block.TheConstants.{BLOCK_BYTES};
+ghost use Rattle.ram_image.specs.Moments.{IsSame, Passes};
 ghost use Rattle.ram_image.specs.CellCalls.{WriteStateRule, WriteStateBytes, WriteCellRule, WriteCellBytes, KillWhereRule, KillWhereBytes};
 ghost use Rattle.ram_image.specs.CellCalls.{cell_call, GoodRowRule, LeadsWithGood, ReadDataRule, ReadStateRule, LeaveCellRule, LeaveCellBytes};
 
@@ -41,7 +42,8 @@ pub enum GoodRow {
 pub fn count_good<I: Image>(image: &mut I, total: u32, block: u32) -> GoodRow
     requires inside { block < total }
     requires whole { ForSome (I.bytes image.old) (λ held. length held ≡ image_len total) }
-    ensures { GoodRowRule (cell_call I.Image total block image.old image.new) result }
+    ensures rule { GoodRowRule (cell_call I.Image total block image.old image.new) result }
+    ensures past { Passes I.Image IsSame image.old image.new }
 {
     let count = STATES.min((total - block) as usize);
     let mut room = [0u8; STATES];
@@ -68,7 +70,8 @@ pub fn read_data<I: Image>(image: &mut I, total: u32, block: u32, into: &mut [u8
     requires fits { length into.old ≡ BLOCK_BYTES }
     requires whole { ForSome (I.bytes image.old) (λ held. length held ≡ image_len total) }
     requires good { ForSome (I.bytes image.old) (λ held. slice_index held (16 + block) ≡ 1) }
-    ensures { ReadDataRule (cell_call I.Image total block image.old image.new) into.new result }
+    ensures rule { ReadDataRule (cell_call I.Image total block image.old image.new) into.new result }
+    ensures past { Passes I.Image IsSame image.old image.new }
 {
     image.read_at(data_offset(total, block), into)
 }
@@ -81,6 +84,7 @@ pub fn write_cell<I: Image>(image: &mut I, total: u32, block: u32, from: &[u8]) 
     requires whole { ForSome (I.bytes image.old) (λ held. length held ≡ image_len total) }
     ensures rule { WriteCellRule (cell_call I.Image total block image.old image.new) from.now result }
     ensures bytes { WriteCellBytes (cell_call I.Image total block image.old image.new) from.now result }
+    ensures past { Passes I.Image (PutsInBlock total block from.now) image.old image.new }
 {
     match image.write_at(state_offset(block), &[TORN]) {
         Moved::Failed => return Moved::Failed,
@@ -108,7 +112,8 @@ pub enum StateRead {
 pub fn read_state<I: Image>(image: &mut I, total: u32, block: u32) -> StateRead
     requires inside { block < total }
     requires whole { ForSome (I.bytes image.old) (λ held. length held ≡ image_len total) }
-    ensures { ReadStateRule (cell_call I.Image total block image.old image.new) result }
+    ensures rule { ReadStateRule (cell_call I.Image total block image.old image.new) result }
+    ensures past { Passes I.Image IsSame image.old image.new }
 {
     let mut state = [0u8; 1];
     match image.read_at(state_offset(block), &mut state) {
@@ -129,6 +134,7 @@ pub fn kill_cell<I: Image>(image: &mut I, total: u32, block: u32) -> Moved
     requires whole { ForSome (I.bytes image.old) (λ held. length held ≡ image_len total) }
     ensures rule { WriteStateRule (cell_call I.Image total block image.old image.new) Dead result }
     ensures bytes { WriteStateBytes (cell_call I.Image total block image.old image.new) dead_state result }
+    ensures past { Passes I.Image (λ held held'. IsBeforeOrAfter held (with_state block dead_state held) held') image.old image.new }
 {
     image.write_at(state_offset(block), &[DEAD])
 }
@@ -139,6 +145,7 @@ fn tear_cell<I: Image>(image: &mut I, total: u32, block: u32) -> Moved
     requires whole { ForSome (I.bytes image.old) (λ held. length held ≡ image_len total) }
     ensures rule { WriteStateRule (cell_call I.Image total block image.old image.new) Torn result }
     ensures bytes { WriteStateBytes (cell_call I.Image total block image.old image.new) torn_state result }
+    ensures past { Passes I.Image (λ held held'. IsBeforeOrAfter held (with_state block torn_state held) held') image.old image.new }
 {
     image.write_at(state_offset(block), &[TORN])
 }
@@ -149,6 +156,7 @@ pub fn kill_where<I: Image>(image: &mut I, total: u32, block: u32, dies: bool) -
     requires whole { ForSome (I.bytes image.old) (λ held. length held ≡ image_len total) }
     ensures rule { KillWhereRule (cell_call I.Image total block image.old image.new) dies result }
     ensures bytes { KillWhereBytes (cell_call I.Image total block image.old image.new) dies result }
+    ensures past { Passes I.Image (λ held held'. IsBeforeOrAfter held (worn_bytes dies block held) held') image.old image.new }
 {
     if dies {
         return kill_cell(image, total, block);
@@ -173,6 +181,7 @@ pub fn leave_cell<I: Image>(
     requires known { known ≡ true → ForSome (I.bytes image.old) (λ held. slice_index held (16 + block) ≡ 1) }
     ensures rule { LeaveCellRule (cell_call I.Image total block image.old image.new) from.now fate result }
     ensures bytes { LeaveCellBytes (cell_call I.Image total block image.old image.new) from.now fate result }
+    ensures past { Passes I.Image (StopsInBytes total block from.now) image.old image.new }
 {
     if known {
         return leave_alive(image, total, block, from, fate);
@@ -192,6 +201,7 @@ fn leave_alive<I: Image>(image: &mut I, total: u32, block: u32, from: &[u8], fat
     requires alive { IfSome (I.bytes image.old) (λ held. ¬ (cell_in total held block ≡ Dead)) }
     ensures rule { LeaveCellRule (cell_call I.Image total block image.old image.new) from.now fate result }
     ensures bytes { LeaveCellBytes (cell_call I.Image total block image.old image.new) from.now fate result }
+    ensures past { Passes I.Image (StopsInBytes total block from.now) image.old image.new }
 {
     match fate {
         Fate::Old => Moved::Done,

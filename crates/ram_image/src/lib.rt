@@ -38,7 +38,8 @@
 //!   and `write_from` alike.
 //! - `event` (`ImageTakes`): `lawful`: the event uses a block of the disc, and what is written is as long as a block. `exactly`:
 //!   what the event does exactly to cells, arms, power and counts. `same_shape`: the geometry stays. `bytes`: which bytes of the
-//!   image change, as below.
+//!   image change, as below. `past`: at each moment within the event, which is after each call to the image, this is one that a
+//!   failure in the event could leave (`PastAt`).
 //! - every call, `rule`: an answer other than a failure leaves the image's count exactly as it was.
 //!
 //! Which bytes change (`specs/EventBytes.antt`, over `model_image/specs/Writes.antt`), also under blocks that are not good:

@@ -124,7 +124,10 @@ impl<I: Image> ImageMedium<I> {
     ghost use Rattle.model_medium.specs.Exact.{Read, Write};
     ghost use Rattle.ram_bytes.specs.declared.block.TheConstants.{BLOCK_BYTES};
     ghost use Rattle.ram_medium.specs.ReadInto.{bytes_read};
-    ghost use Rattle.ram_image.specs.Medium.{shape_of_medium, world_of, machine_in, bytes_in, dies_in, ImageTakes};
+    ghost use Rattle.model_image.specs.Writes.{StopsInBytes};
+    ghost use Rattle.ram_image.specs.Moments.{IsSame};
+    ghost use Rattle.ram_image.specs.EventBytes.{MayWearBytes};
+    ghost use Rattle.ram_image.specs.Medium.{shape_of_medium, world_of, machine_in, bytes_in, past_in, dies_in, PassesIn, ImageTakes};
     ghost use Rattle.ram_image.specs.Begun.{IsNew, ImageBeginRule, BeginBytes, LookRule, HasBytesRule, IsDeadRule, ReadOnRule, WriteCutRule, WriteCutBytes, LeaveRule, LeaveBytes};
 
     /// The medium of a disc of this geometry over its image, with the power off, nothing counted and nothing armed.
@@ -180,6 +183,7 @@ impl<I: Image> ImageMedium<I> {
         requires on { IsTrue (world_of self.old).power }
         ensures rule { ImageBeginRule (machine_in self.old) (machine_in self.new) block result }
         ensures bytes { BeginBytes (dies_in self.old block) block (bytes_in self.old) (bytes_in self.new) result }
+        ensures past { PassesIn (MayWearBytes (dies_in self.old block) block) self.old self.new }
         ensures same_shape { shape_of_medium self.new ≡ shape_of_medium self.old }
         ensures same_room { self.new.room ≡ self.old.room }
     {
@@ -203,6 +207,7 @@ impl<I: Image> ImageMedium<I> {
     fn cut_power(&mut self)
         ensures machine { machine_in self.new ≡ cut_off (machine_in self.old) }
         ensures bytes { bytes_in self.new ≡ bytes_in self.old }
+        ensures past { past_in self.new ≡ past_in self.old }
         ensures same_shape { shape_of_medium self.new ≡ shape_of_medium self.old }
         ensures same_room { self.new.room ≡ self.old.room }
     {
@@ -237,6 +242,7 @@ impl<I: Image> ImageMedium<I> {
         ensures rule { ReadOnRule (machine_in self.old) (machine_in self.new) block
             [] (bytes_read result into.new) result }
         ensures bytes { bytes_in self.new ≡ bytes_in self.old }
+        ensures past { PassesIn IsSame self.old self.new }
         ensures same_shape { shape_of_medium self.new ≡ shape_of_medium self.old }
         ensures same_room { self.new.room ≡ self.old.room }
     {
@@ -267,6 +273,7 @@ impl<I: Image> ImageMedium<I> {
         ensures rule { LookRule (machine_in self.old) (machine_in self.new) block
             self.new.good_from self.new.good_to result }
         ensures bytes { bytes_in self.new ≡ bytes_in self.old }
+        ensures past { PassesIn IsSame self.old self.new }
         ensures same_shape { shape_of_medium self.new ≡ shape_of_medium self.old }
         ensures same_room { self.new.room ≡ self.old.room }
     {
@@ -307,6 +314,7 @@ impl<I: Image> ImageMedium<I> {
         requires { block < total (shape_of_medium self.old) }
         ensures rule { HasBytesRule (machine_in self.old) (machine_in self.new) block result }
         ensures bytes { bytes_in self.new ≡ bytes_in self.old }
+        ensures past { PassesIn IsSame self.old self.new }
         ensures same_shape { shape_of_medium self.new ≡ shape_of_medium self.old }
     {
         self.look_at(block)
@@ -331,6 +339,7 @@ impl<I: Image> ImageMedium<I> {
         requires { block < total (shape_of_medium self.old) }
         ensures rule { IsDeadRule (machine_in self.old) (machine_in self.new) block result }
         ensures bytes { bytes_in self.new ≡ bytes_in self.old }
+        ensures past { PassesIn IsSame self.old self.new }
         ensures same_shape { shape_of_medium self.new ≡ shape_of_medium self.old }
     {
         match read_state(&mut self.image, self.geometry.total(), block) {
@@ -388,6 +397,7 @@ impl<I: Image> ImageMedium<I> {
         ensures rule { WriteCutRule (machine_in self.old) (machine_in self.new) block from.now fate result }
         ensures bytes { WriteCutBytes (total (shape_of_medium self.old)) block from.now fate
             (bytes_in self.old) (bytes_in self.new) result }
+        ensures past { PassesIn (StopsInBytes (total (shape_of_medium self.old)) block from.now) self.old self.new }
         ensures same_shape { shape_of_medium self.new ≡ shape_of_medium self.old }
     {
         match self.leave(block, from, fate) {
@@ -406,6 +416,7 @@ impl<I: Image> ImageMedium<I> {
         ensures rule { LeaveRule (machine_in self.old) (machine_in self.new) block from.now fate result }
         ensures bytes { LeaveBytes (total (shape_of_medium self.old)) block from.now fate
             (bytes_in self.old) (bytes_in self.new) result }
+        ensures past { PassesIn (StopsInBytes (total (shape_of_medium self.old)) block from.now) self.old self.new }
         ensures same_shape { shape_of_medium self.new ≡ shape_of_medium self.old }
     {
         let known = self.is_known(block);
@@ -508,8 +519,9 @@ impl<I: Image> Medium for ImageMedium<I> {
 impl<I: Image> MediumControl for ImageMedium<I> {
     ghost use Rattle.model_geometry.specs.Geometry.{total};
     ghost use Rattle.ram_medium.specs.Control.{FailRule, WearRule, with_armed_cut};
+    ghost use Rattle.model_image.specs.Writes.{with_state, dead_state, IsBeforeOrAfter};
     ghost use Rattle.ram_image.specs.EventBytes.{FailBytes, ToldBytes};
-    ghost use Rattle.ram_image.specs.Medium.{shape_of_medium, machine_in, bytes_in};
+    ghost use Rattle.ram_image.specs.Medium.{shape_of_medium, machine_in, bytes_in, PassesIn};
 
     ghost arms = { λ medium. arms_of medium.armed.value };
 
@@ -526,6 +538,7 @@ impl<I: Image> MediumControl for ImageMedium<I> {
         ensures rule { FailRule (total (shape_of_medium self.old)) (machine_in self.old) (machine_in self.new)
             block result }
         ensures bytes { FailBytes block (bytes_in self.old) (bytes_in self.new) result }
+        ensures past { PassesIn (λ held held'. IsBeforeOrAfter held (with_state block dead_state held) held') self.old self.new }
         ensures as_many { total (shape_of_medium self.new) ≡ total (shape_of_medium self.old) }
         ensures same_shape { shape_of_medium self.new ≡ shape_of_medium self.old }
     {

@@ -53,28 +53,28 @@ fn pressed(alloc: Global) -> Result<Vec<u8>, AllocError> {
     image.bytes().to_vec(alloc)
 }
 
-/// Takes a medium over an image through steps, and lets it go.
+/// Takes a medium over an image through steps. The answers, and the bytes of the image then.
 fn take_image(
     alloc: Global,
     medium: ImageMedium<MemImage>,
     steps: &[Step],
     is_straight: bool,
-) -> Result<Vec<Answer>, AllocError> {
+) -> Result<(Vec<Answer>, Vec<u8>), AllocError> {
     let mut medium = medium;
     let answers = take_all(alloc, &mut medium, steps, is_straight);
-    let _ = medium.into_parts();
-    answers
+    let (image, _) = medium.into_parts();
+    Ok((answers?, image.bytes().to_vec(alloc)?))
 }
 
-/// Takes a new medium over an image through steps. The image fails at these calls, of which opening takes two. No answers
-/// where it is not opened.
-pub fn over_image(
+/// The same of a new medium over an image of these bytes, which fails at these calls. No answers where it is not opened.
+fn over_bytes(
     alloc: Global,
+    bytes: Vec<u8>,
     failing: Vec<u64>,
     steps: &[Step],
     is_straight: bool,
-) -> Result<Vec<Answer>, AllocError> {
-    let image = MemImage::new(pressed(alloc)?, failing);
+) -> Result<(Vec<Answer>, Vec<u8>), AllocError> {
+    let image = MemImage::new(bytes, failing);
     match open(
         MediumRooms::new(&mut Budget::ample(alloc))?,
         image,
@@ -90,9 +90,38 @@ pub fn over_image(
         ) => {
             drop(image);
             drop(rooms);
-            Ok(Vec::new(alloc))
+            Ok((Vec::new(alloc), Vec::new(alloc)))
         }
     }
+}
+
+/// The steps before the image is opened anew, and those from there on.
+fn before_again(steps: &[Step]) -> (&[Step], &[Step]) {
+    let place = steps
+        .iter()
+        .position(|step| matches!(step, Step::Again))
+        .unwrap_or(steps.len());
+    (&steps[..place], &steps[place..])
+}
+
+/// Takes a new medium over an image through steps. The image fails at these calls, of which opening takes two, until it is opened
+/// anew. No answers where it is not opened.
+pub fn over_image(
+    alloc: Global,
+    failing: Vec<u64>,
+    steps: &[Step],
+    is_straight: bool,
+) -> Result<Vec<Answer>, AllocError> {
+    let (before, behind) = before_again(steps);
+    let (mut answers, bytes) = over_bytes(alloc, pressed(alloc)?, failing, before, is_straight)?;
+    if behind.is_empty() {
+        return Ok(answers);
+    }
+    let (more, _) = over_bytes(alloc, bytes, Vec::new(alloc), behind, is_straight)?;
+    for answer in &more {
+        answers.push(*answer)?;
+    }
+    Ok(answers)
 }
 
 /// The answers of four media, each to the same steps: in memory and over an image, and both once more straight.

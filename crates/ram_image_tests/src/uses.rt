@@ -140,5 +140,6 @@ pub fn take<M: MediumControl>(medium: &mut M, step: Step, block: &mut Block) -> 
         Step::Fail { block: number } => fail(medium, number),
         Step::Wear { block: number, n } => wear(medium, number, n),
         Step::Cut { n, fate } => arm_cut(medium, n, fate),
+        Step::Again => Answer::Done,
     }
 }

@@ -1,6 +1,7 @@
 -- A conversation: what comes, what goes, and what was written whenever more was asked for. For the trait `Conversation`, and for who reads
 -- lines and answers them.
-use Rattle.std.specs.Prelude.{◌≡◌, ℕ, Option, IfSome, MatchOption, List, ◌∷◌, ◌++◌, All}
+use Rattle.std.specs.Prelude.{◌≡◌, ℕ, Option, List}
+use Rattle.ram_outside.specs.Added.{AddsNow, AddsOnly}
 
 -- How it stood when more was asked for: what was left to come, and what was written by then, each where it is known. (This project's own,
 -- as all here.)
@@ -14,12 +15,11 @@ asked_with left written = record { left = left; written = written }
 
 -- Where it is known when more was asked for, the newest first: once more now, beside the times that were known before.
 abbrev pub AsksNow : Asked → Option (List Asked) → Option (List Asked) → Type 0
-AsksNow now before after = IfSome after (λ all. MatchOption before ⊥ (λ earlier. all ≡ now ∷ earlier))
+AsksNow now before after = AddsNow now before after
 
 -- Whenever more was asked for between the two, it stood like this.
 abbrev pub AsksOnly : (Asked → Type 0) → Option (List Asked) → Option (List Asked) → Type 0
-AsksOnly stood before after =
-    IfSome after (λ all. MatchOption before ⊥ (λ earlier. (since : List Asked) × (all ≡ since ++ earlier) × All stood since))
+AsksOnly stood before after = AddsOnly stood before after
 
 -- The sink of a conversation is a part of it: with another one it is that one, and nothing else of the conversation differs.
 pub record HoldsReport {T K : Type 0} (left : T → Option (List ℕ)) (faults : T → ℕ) (asked : T → Option (List Asked)) (report : T → K)

@@ -47,3 +47,8 @@ abbrev pub SetLenRule : Option (List ℕ) → Option (List ℕ) → ℕ → ℕ 
 SetLenRule before after faults faults' len moves.Done = IsChanged (resized len) before after faults faults'
 SetLenRule before after faults faults' len moves.Failed =
     Rose faults faults' × ((after ≡ before) ⊎ (after ≡ option_map (resized len) before))
+
+-- What `sync` may do, by its answer. (This project's own.)
+abbrev pub SyncRule : Option (List ℕ) → Option (List ℕ) → ℕ → ℕ → Moved → Type 0
+SyncRule before after faults faults' moves.Done = IsUnchanged before after faults faults'
+SyncRule before after faults faults' moves.Failed = ImageFails before after faults faults'

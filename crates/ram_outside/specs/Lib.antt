@@ -1,10 +1,13 @@
+pub mod Added
 pub mod Source
 pub mod Sink
 pub mod Conversation
 pub mod BothEnds
 pub mod Image
+pub mod Past
 pub mod Opener
 pub mod Calls
 pub mod Memory
+pub mod MemImage
 pub mod MemConversation
 pub mod Adapters

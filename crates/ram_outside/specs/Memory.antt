@@ -1,6 +1,7 @@
 -- Exactly what the objects in memory do at each call: for the forms in memory, and for tests that bring their bytes.
 use Rattle.std.specs.Prelude.{◌≡◌, ℕ, ◌+◌, ◌<◌, ◌≤◌, ◌⊎◌, min, Option, Some, None, List, [], ◌∷◌, ◌++◌, length, take, drop}
 use Rattle.model_bytes.specs.Bytes.{put_at, resized}
+use Rattle.ram_outside.specs.Added.{AddsNow}
 use Rattle.ram_outside.specs.Calls.{CallLog, NextCallFails, with_call, with_faults, with_failed_call}
 use Rattle.ram_outside.specs.Opener.{Asking, OpenerView, opener_view, asking}
 use Rattle.ram_outside.specs.declared.source.Take.{Take}
@@ -30,11 +31,17 @@ pub record SinkState : Type 0 where
   pub refused : ℕ
   pub calls : CallLog
 
--- an image in memory: its bytes, how many it has room for, and its calls (this project's own)
+-- An image in memory: its bytes, how many it has room for, and its calls; and, where it keeps them, the bytes before each call that may
+-- have changed them and was done, the newest first. (This project's own.)
 pub record ImageState : Type 0 where
   pub bytes : List ℕ
   pub room : ℕ
   pub calls : CallLog
+  pub earlier : Option (List (List ℕ))
+
+-- the next call of an image fails: it is one that is to fail, or one had failed before (this project's own)
+abbrev pub NextImageCallFails : CallLog → Type 0
+NextImageCallFails log = NextCallFails log ⊎ (0 < log.faults)
 
 -- an opener in memory: the image that it still has, the image that was handed back last, the images that it was asked
 -- for, in order, and its calls that open one (this project's own)
@@ -101,19 +108,19 @@ PutsExactly old new piece puts.Failed = RefusesPiece old new piece
 -- Exactly what `len` of an image in memory does, by its answer. (This project's own.)
 abbrev pub GivesLengthExactly : ImageState → ImageState → Length → Type 0
 GivesLengthExactly old new (lengths.Is n) =
-    (¬ NextCallFails old.calls) × (n ≡ length old.bytes) × (new ≡ record old { calls = with_call old.calls })
+    (¬ NextImageCallFails old.calls) × (n ≡ length old.bytes) × (new ≡ record old { calls = with_call old.calls })
 GivesLengthExactly old new lengths.Failed =
-    NextCallFails old.calls × (new ≡ record old { calls = with_failed_call old.calls })
+    NextImageCallFails old.calls × (new ≡ record old { calls = with_failed_call old.calls })
 
 -- the slice has the bytes from here on, and nothing but the number of calls changed (this project's own)
 pub record ReadsBytes (old new : ImageState) (at : ℕ) (into' : List ℕ) : Type 0 where
-  pub no_failure : ¬ NextCallFails old.calls
+  pub no_failure : ¬ NextImageCallFails old.calls
   pub read : into' ≡ take (length into') (drop at old.bytes)
   pub new_state : new ≡ record old { calls = with_call old.calls }
 
 -- the call is one that fails, and nothing but the calls changed, the slice neither (this project's own)
 pub record FailsToRead (old new : ImageState) (into into' : List ℕ) : Type 0 where
-  pub fails : NextCallFails old.calls
+  pub fails : NextImageCallFails old.calls
   pub new_state : new ≡ record old { calls = with_failed_call old.calls }
   pub slice : into' ≡ into
 
@@ -123,27 +130,37 @@ abbrev pub ReadsImageExactly : ImageState → ImageState → ℕ → List ℕ �
 ReadsImageExactly old new at into into' moves.Done = ReadsBytes old new at into'
 ReadsImageExactly old new at into into' moves.Failed = FailsToRead old new into into'
 
+-- the image has these bytes now, and this call more; it keeps those of before, unless memory for that was refused (this project's own)
+pub record ChangesBytes (old new : ImageState) (bytes : List ℕ) : Type 0 where
+  pub no_failure : ¬ NextImageCallFails old.calls
+  pub bytes_are : new.bytes ≡ bytes
+  pub room : old.room ≤ new.room
+  pub calls_are : new.calls ≡ with_call old.calls
+  pub keeps : AddsNow old.bytes old.earlier new.earlier
+
+-- no byte changed, and one call more failed (this project's own)
+pub record FailsToChange (old new : ImageState) : Type 0 where
+  pub same : new.bytes ≡ old.bytes
+  pub room : old.room ≤ new.room
+  pub calls_are : new.calls ≡ with_failed_call old.calls
+  pub same_earlier : new.earlier ≡ old.earlier
+
 -- Exactly what `write_at` of an image in memory does, by its answer: a call that fails writes nothing.
 -- (This project's own.)
 abbrev pub WritesImageExactly : ImageState → ImageState → ℕ → List ℕ → Moved → Type 0
-WritesImageExactly old new at from moves.Done =
-    (¬ NextCallFails old.calls) × (new ≡ record old { bytes = put_at at from old.bytes; calls = with_call old.calls })
-WritesImageExactly old new at from moves.Failed =
-    NextCallFails old.calls × (new ≡ record old { calls = with_failed_call old.calls })
+WritesImageExactly old new at from moves.Done = ChangesBytes old new (put_at at from old.bytes)
+WritesImageExactly old new at from moves.Failed = NextImageCallFails old.calls × FailsToChange old new
 
--- the image has these bytes now, no less room, and these calls (this project's own)
-pub record HasBytes (old new : ImageState) (bytes : List ℕ) (calls : CallLog) : Type 0 where
-  pub bytes_are : new.bytes ≡ bytes
-  pub room : old.room ≤ new.room
-  pub calls_are : new.calls ≡ calls
-
--- Exactly what `set_len` of an image in memory does, by its answer: it fails where the call is one that fails, or
--- where room was refused, and then no byte changes. (This project's own.)
+-- Exactly what `set_len` of an image in memory does, by its answer: it fails where the call fails, or where room was
+-- refused, and then no byte changes. (This project's own.)
 abbrev pub ResizesExactly : ImageState → ImageState → ℕ → Moved → Type 0
-ResizesExactly old new len moves.Done =
-    (¬ NextCallFails old.calls) × HasBytes old new (resized len old.bytes) (with_call old.calls)
-ResizesExactly old new len moves.Failed =
-    (NextCallFails old.calls ⊎ (old.room < len)) × HasBytes old new old.bytes (with_failed_call old.calls)
+ResizesExactly old new len moves.Done = ChangesBytes old new (resized len old.bytes)
+ResizesExactly old new len moves.Failed = (NextImageCallFails old.calls ⊎ (old.room < len)) × FailsToChange old new
+
+-- Exactly what `sync` of an image in memory does, by its answer: it only counts its call. (This project's own.)
+abbrev pub SyncsExactly : ImageState → ImageState → Moved → Type 0
+SyncsExactly old new moves.Done = (¬ NextImageCallFails old.calls) × (new ≡ record old { calls = with_call old.calls })
+SyncsExactly old new moves.Failed = NextImageCallFails old.calls × (new ≡ record old { calls = with_failed_call old.calls })
 
 -- this image, with no failure counted (this project's own)
 abbrev pub unfailed : ImageState → ImageState

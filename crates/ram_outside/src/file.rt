@@ -1,7 +1,9 @@
 //! Disc images that are files. No bytes of them are known; what the system does is trusted.
-ghost use Rattle.std.specs.Prelude.{◌≡◌, ℕ, false, None};
+ghost use Rattle.std.specs.Prelude.{◌≡◌, ℕ, ◌<◌, ◌↔◌, false, IsTrue, None, if◌then◌else◌};
 ghost use Rattle.model_counts.specs.Counts.{counted};
-ghost use Rattle.ram_outside.specs.Image.{LenRule, ReadAtRule, WriteAtRule, SetLenRule};
+ghost use Rattle.ram_outside.specs.Image.{LenRule, ReadAtRule, WriteAtRule, SetLenRule, SyncRule};
+ghost use Rattle.ram_outside.specs.declared.image.Length.TheVariants as lengths;
+ghost use Rattle.ram_outside.specs.declared.image.Moved.TheVariants as moves;
 ghost use Rattle.ram_outside.specs.Opener.{OpenRule, CloseRule, opener_view};
 ghost use Rattle.ram_outside.specs.Adapters.{count_after_len, count_after_move, count_after_open};
 ghost use Rattle.ram_outside.specs.declared.opener.Access.TheVariants.{ReadWrite, ReadOnly};
@@ -38,6 +40,18 @@ impl<F: FileExt + Seek + OpenFile + Drop> FileImage<F> {
     {
         FileImage { file, faults: 0 }
     }
+
+    /// Whether an error was counted before. Then one more is, and the file is not touched again.
+    fn fails_again(&mut self) -> bool
+        ensures failed { IsTrue result ↔ (0 < self.old) }
+        ensures count { self.new ≡ (if result then counted self.old 1 else self.old) }
+    {
+        let failed = self.faults > 0;
+        if failed {
+            self.faults = self.faults.saturating_add(1);
+        }
+        failed
+    }
 }
 
 impl<F: FileExt + Seek + OpenFile + Drop> Image for FileImage<F> {
@@ -45,10 +59,18 @@ impl<F: FileExt + Seek + OpenFile + Drop> Image for FileImage<F> {
 
     ghost faults = { λ i. i };
 
+    ghost past = { λ _. None };
+
+    ghost laws = { record { newest = λ _. tt; failed = λ _. tt } };
+
     fn len(&mut self) -> Length
         ensures rule { LenRule None None self.old self.new result }
         ensures count { self.new ≡ count_after_len result self.old }
+        ensures stops { 0 < self.old → result ≡ lengths.Failed }
     {
+        if self.fails_again() {
+            return Length::Failed;
+        }
         match count_error(self.file.seek(SeekFrom::End(0)), &mut self.faults) {
             Some(len) => Length::Is(len),
             None => Length::Failed,
@@ -59,7 +81,11 @@ impl<F: FileExt + Seek + OpenFile + Drop> Image for FileImage<F> {
     fn read_at(&mut self, at: u64, into: &mut [u8]) -> Moved
         ensures rule { ReadAtRule None None self.old self.new at into.new result }
         ensures count { self.new ≡ count_after_move result self.old }
+        ensures stops { 0 < self.old → result ≡ moves.Failed }
     {
+        if self.fails_again() {
+            return Moved::Failed;
+        }
         let outcome = self.file.read_exact_at(into, at);
         moved(outcome, &mut self.faults)
     }
@@ -67,7 +93,11 @@ impl<F: FileExt + Seek + OpenFile + Drop> Image for FileImage<F> {
     fn write_at(&mut self, at: u64, from: &[u8]) -> Moved
         ensures rule { WriteAtRule None None self.old self.new at from.now result }
         ensures count { self.new ≡ count_after_move result self.old }
+        ensures stops { 0 < self.old → result ≡ moves.Failed }
     {
+        if self.fails_again() {
+            return Moved::Failed;
+        }
         let outcome = self.file.write_all_at(from, at);
         moved(outcome, &mut self.faults)
     }
@@ -75,8 +105,23 @@ impl<F: FileExt + Seek + OpenFile + Drop> Image for FileImage<F> {
     fn set_len(&mut self, len: u64) -> Moved
         ensures rule { SetLenRule None None self.old self.new len result }
         ensures count { self.new ≡ count_after_move result self.old }
+        ensures stops { 0 < self.old → result ≡ moves.Failed }
     {
+        if self.fails_again() {
+            return Moved::Failed;
+        }
         moved(self.file.set_len(len), &mut self.faults)
+    }
+
+    fn sync(&mut self) -> Moved
+        ensures rule { SyncRule None None self.old self.new result }
+        ensures count { self.new ≡ count_after_move result self.old }
+        ensures stops { 0 < self.old → result ≡ moves.Failed }
+    {
+        if self.fails_again() {
+            return Moved::Failed;
+        }
+        moved(self.file.sync_data(), &mut self.faults)
     }
 }
 

@@ -11,6 +11,9 @@
 //!
 //! - every call of the traits, `count` in each rule: An answer other than `Failed` leaves the count exactly as it was.
 //!   `Failed` comes only where the count rose, or stands at 2^64 - 1. So a failure cannot be passed over.
+//! - `Image`, `past`: What it was after each call that may have changed a byte, and after each that failed, where that is known.
+//!   `laws` (`IsFailStop`), `stops`: Once a call has failed all fail, and none changes a byte, so it has the bytes that the one
+//!   that failed left. `MemImage::with_past` makes an image that tells its past.
 //! - `MemImage`, `GivesLengthExactly`, `ReadsImageExactly`, `WritesImageExactly`, `ResizesExactly`: Which call fails. A call that
 //!   fails changes no byte of the image, and a read that fails changes none of the slice.
 //! - `MemOpener`, `OpensExactly`, `after_close`: It gives its image once, whatever the name, and keeps each name that it was
@@ -38,7 +41,7 @@
 //!
 //! # What must fail
 //!
-//! `must-fail/` has four wrong changes that the prover refuses: an opener that asks for another name, one that forgets the
+//! `must-fail/` has four wrong changes that the prover refuses: an image that goes on behind a failure, an opener that forgets the
 //! failures of the image that it takes back, a sink that counts a failure and goes on, a failed write that changes a byte outside
 //! its range.
 #![tactic(auto)]

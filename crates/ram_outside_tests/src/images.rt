@@ -64,6 +64,12 @@ fn add_len(image: &mut MemImage, answer: &mut String) -> Result<(), AllocError> 
     write!(answer, "{length:?}")
 }
 
+/// Adds whether all that was written will last, and the bytes of the image.
+fn add_sync(image: &mut MemImage, answer: &mut String) -> Result<(), AllocError> {
+    let moved = image.sync();
+    add_moved(image, moved, answer)
+}
+
 /// Makes room for so many bytes, and adds how that went.
 fn add_reserve(image: &mut MemImage, len: u64, answer: &mut String) -> Result<(), AllocError> {
     let reserved = image.reserve(len as usize);
@@ -78,6 +84,7 @@ fn make(image: &mut MemImage, words: &[&str], answer: &mut String) -> Result<(),
         ["read", at, count] => add_read(image, number_of(at), number_of(count), answer),
         ["write", at, text] => add_write(image, number_of(at), text, answer),
         ["set-len", len] => add_set_len(image, number_of(len), answer),
+        ["sync"] => add_sync(image, answer),
         _ => answer.push_str("no such step"),
     }
 }

@@ -6,7 +6,7 @@ use Rattle.std.proofs.Math.Seq.{drop-append_seam}
 use Rattle.std.specs.Io.KnownBytes.{Consumes}
 use Rattle.ram_outside.specs.Source.{GivesNext}
 use Rattle.ram_outside.specs.Conversation.{Asked, AsksNow, AsksOnly}
-use Rattle.ram_outside.proofs.Asks.{asks_then, asks_once}
+use Rattle.ram_outside.proofs.Additions.{added_then, added_once}
 use Rattle.ram_receive.specs.Receiving.{Went}
 use borrow.Rule.Slice.PartMut.{put_mid, post_of}
 
@@ -55,4 +55,4 @@ longer into piece at inside long =
 
 -- more was asked for once more, where it stood so
 pub more_asked : (stood : Asked → Type 0) (now : Asked) (a b c : Option (List Asked)) → AsksOnly stood a b → AsksNow now b c → stood now → AsksOnly stood a c
-more_asked stood now a b c before asks here = asks_then stood a b c before (asks_once stood now b c asks here)
+more_asked stood now a b c before asks here = added_then stood a b c before (added_once stood now b c asks here)

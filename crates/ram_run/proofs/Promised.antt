@@ -5,6 +5,7 @@ use Rattle.model_geometry.specs.declared.kinds.LayoutKind.{LayoutKind}
 use Rattle.model_geometry.specs.declared.kinds.LayoutKind.TheVariants.{OneGroup, EachZone}
 use Rattle.ram_machine.specs.declared.status.Status.{Status}
 use Rattle.ram_machine.specs.declared.status.Status.TheVariants as statuses
+use Rattle.ram_outside.specs.Past.{Moment}
 use Rattle.ram_script.specs.Around.{Surroundings, IsUntouched, UntouchedByUsage, TellsText, TextCount}
 use Rattle.ram_script.specs.Endings.{IsOfRun, StatusCounts}
 use Rattle.ram_script.specs.RunCounts.{SameCounts, counts_of}
@@ -96,9 +97,9 @@ text_counts source image sink sink' statuses.NotADisc count = absurd count
 
 -- ---- all promises, by the form
 
-module _ {I : Type 0} (bytes_of : I → Option (List ℕ)) (knows : Bool) (old new : Surroundings I) (status : Status) (words : List (List ℕ)) where
+module _ {I : Type 0} (bytes_of : I → Option (List ℕ)) (past_of : I → Option (List Moment)) (knows : Bool) (old new : Surroundings I) (status : Status) (words : List (List ℕ)) where
   -- the words have none: nothing is touched
-  pub of_none : status ≡ statuses.Usage → ¬ IsWordForm words → old ≡ new → Promises bytes_of knows old new status words
+  pub of_none : status ≡ statuses.Usage → ¬ IsWordForm words → old ≡ new → Promises bytes_of past_of knows old new status words
   of_none is none same = record {
     memory = subst MemoryRule (sym is) tt;
     usage = subst (UsageRule words) (sym is) none;
@@ -117,7 +118,7 @@ module _ {I : Type 0} (bytes_of : I → Option (List ℕ)) (knows : Bool) (old n
 
   module _ (of : IsOfRun status) (causes : StatusCounts old.counts new.counts status) where
     -- the help is told
-    pub of_help : IsHelp words → TellsText old new HELP.now status → Promises bytes_of knows old new status words
+    pub of_help : IsHelp words → TellsText old new HELP.now status → Promises bytes_of past_of knows old new status words
     of_help is keeps = record {
       memory = remembers status of;
       usage = has_form words status of (inr (inr (inl is)));
@@ -132,7 +133,7 @@ module _ {I : Type 0} (bytes_of : I → Option (List ℕ)) (knows : Bool) (old n
     }
 
     -- the version is told
-    pub of_version : IsVersion words → TellsText old new VERSION.now status → Promises bytes_of knows old new status words
+    pub of_version : IsVersion words → TellsText old new VERSION.now status → Promises bytes_of past_of knows old new status words
     of_version is keeps = record {
       memory = remembers status of;
       usage = has_form words status of (inr (inr (inr (inl is))));
@@ -147,7 +148,7 @@ module _ {I : Type 0} (bytes_of : I → Option (List ℕ)) (knows : Bool) (old n
     }
 
     -- a script runs
-    pub of_script : (kind : LayoutKind) (name : List ℕ) → IsServedOf kind name words → RunsScript bytes_of knows old new status kind name → Promises bytes_of knows old new status words
+    pub of_script : (kind : LayoutKind) (name : List ℕ) → IsServedOf kind name words → RunsScript bytes_of past_of knows old new status kind name → Promises bytes_of past_of knows old new status words
     of_script kind name is keeps = record {
       memory = remembers status of;
       usage = has_form words status of (inl (kind, (name, is)));
@@ -156,14 +157,14 @@ module _ {I : Type 0} (bytes_of : I → Option (List ℕ)) (knows : Bool) (old n
       help = λ other. absurd (not_served words 1581 (help_number words other) (λ e. omega (arith, e)) (λ e. omega (arith, e)) kind name is);
       version = λ other. absurd (not_served words 2349 (version_number words other) (λ e. omega (arith, e)) (λ e. omega (arith, e)) kind name is);
       script = λ kind' name' other. let same = one_served words kind kind' name name' is other in
-          subst (λ (n : List ℕ). RunsScript bytes_of knows old new status kind' n) same.1 (subst (λ (k : LayoutKind). RunsScript bytes_of knows old new status k name) same.0 keeps);
+          subst (λ (n : List ℕ). RunsScript bytes_of past_of knows old new status kind' n) same.1 (subst (λ (k : LayoutKind). RunsScript bytes_of past_of knows old new status k name) same.0 keeps);
       drawn = λ name' seed' other. absurd (not_served words 2151 (drawn_number words name' seed' other) (λ e. omega (arith, e)) (λ e. omega (arith, e)) kind name is);
       audit = λ name' other. absurd (not_served words 1377 (audit_number words name' other) (λ e. omega (arith, e)) (λ e. omega (arith, e)) kind name is);
       check = λ name' other. absurd (not_served words 1379 (check_number words name' other) (λ e. omega (arith, e)) (λ e. omega (arith, e)) kind name is);
     }
 
     -- a drawn script runs
-    pub of_drawn : (name : List ℕ) (seed : ℕ) → IsGenerateOf name seed words → RunsDrawn bytes_of knows old new status name seed → Promises bytes_of knows old new status words
+    pub of_drawn : (name : List ℕ) (seed : ℕ) → IsGenerateOf name seed words → RunsDrawn bytes_of past_of knows old new status name seed → Promises bytes_of past_of knows old new status words
     of_drawn name seed is keeps = record {
       memory = remembers status of;
       usage = has_form words status of (inr (inl (name, seed, is)));
@@ -173,13 +174,13 @@ module _ {I : Type 0} (bytes_of : I → Option (List ℕ)) (knows : Bool) (old n
       version = λ other. let a = drawn_number words name seed is in let b = version_number words other in absurd (omega (arith, a, b));
       script = λ kind' name' other. absurd (not_served words 2151 (drawn_number words name seed is) (λ e. omega (arith, e)) (λ e. omega (arith, e)) kind' name' other);
       drawn = λ name' seed' other. let same = one_generate words name name' seed seed' is other in
-          subst (λ (n : List ℕ). RunsDrawn bytes_of knows old new status n seed') same.0 (subst (λ (s : ℕ). RunsDrawn bytes_of knows old new status name s) same.1 keeps);
+          subst (λ (n : List ℕ). RunsDrawn bytes_of past_of knows old new status n seed') same.0 (subst (λ (s : ℕ). RunsDrawn bytes_of past_of knows old new status name s) same.1 keeps);
       audit = λ name' other. let a = drawn_number words name seed is in let b = audit_number words name' other in absurd (omega (arith, a, b));
       check = λ name' other. let a = drawn_number words name seed is in let b = check_number words name' other in absurd (omega (arith, a, b));
     }
 
     -- an image is told
-    pub of_audit : (name : List ℕ) → IsAuditOf name words → Audits bytes_of old new knows name status → Promises bytes_of knows old new status words
+    pub of_audit : (name : List ℕ) → IsAuditOf name words → Audits bytes_of old new knows name status → Promises bytes_of past_of knows old new status words
     of_audit name is keeps = record {
       memory = remembers status of;
       usage = has_form words status of (inr (inr (inr (inr (name, inl is)))));
@@ -194,7 +195,7 @@ module _ {I : Type 0} (bytes_of : I → Option (List ℕ)) (knows : Bool) (old n
     }
 
     -- a text is checked
-    pub of_check : (name : List ℕ) → IsCheckOf name words → Checks bytes_of old new knows name status → Promises bytes_of knows old new status words
+    pub of_check : (name : List ℕ) → IsCheckOf name words → Checks bytes_of old new knows name status → Promises bytes_of past_of knows old new status words
     of_check name is keeps = record {
       memory = remembers status of;
       usage = has_form words status of (inr (inr (inr (inr (name, inr is)))));

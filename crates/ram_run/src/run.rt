@@ -1,12 +1,13 @@
 //! What the program does for each form of its words.
-ghost use Rattle.std.specs.Prelude.{◌≡◌, ◌⊎◌, ℕ, List, map};
+ghost use Rattle.std.specs.Prelude.{◌≡◌, ◌⊎◌, ℕ, true, List, map};
 ghost use Rattle.ram_outside.specs.declared.opener.Access.TheVariants.{ReadWrite};
 ghost use Rattle.ram_outside.specs.Conversation.{AsksOnly};
 ghost use Rattle.ram_script.specs.Asking.{IsAnsweredBy};
 ghost use Rattle.ram_script.specs.Progress.{Beginning};
 ghost use Rattle.ram_script.specs.Around.{IsNotOpened, AsksOnce, around};
 ghost use Rattle.ram_script.specs.Endings.{IsUnopened, IsOfRun, StandsWith, StatusCounts};
-ghost use Rattle.ram_script.specs.Opened.{IsBeginning, aftermath_of};
+ghost use Rattle.ram_script.specs.Opened.{IsBeginning, EndsAtFailure, aftermath_of};
+ghost use Rattle.ram_machine.specs.declared.status.Status.TheVariants as statuses;
 ghost use Rattle.ram_script.specs.Rooms.{AreReady};
 ghost use Rattle.ram_run.specs.Rooms.{AreRoomsFor};
 ghost use Rattle.ram_run.specs.Promises.{Promises};
@@ -43,7 +44,8 @@ use ram_volume::Volume;
 /// - `Script`: the next line is none of the language, or passes a limit, or the script does. Then: all answers and that last line
 ///   are written; the image is as the lines leave it. (`IsOfScript`, `IsEnded`)
 /// - `ImageFault`: the opener or the image counted a failure. Then: nothing was opened; or no line was begun; or all answers are
-///   written, and the image is as the next line, in which it failed, leaves it. (`IsNotBegun`, `IsStoppedInLine`)
+///   written, and the image is as the next line, in which it failed, leaves it: it has the bytes right after the first of its calls that
+///   failed. (`IsNotBegun`, `IsStoppedInLine`, `EndsAtFailure`)
 /// - `SourceFault`: the source counted a failure. Then: every whole line that came is answered; the image is as the lines leave
 ///   it. (`IsBroken`)
 /// - `SinkFault`: the sink counted one failure; image or source may have too. Then: no line was answered after it; a beginning of
@@ -75,7 +77,7 @@ pub fn run<T: Conversation, O: Opener>(
     opener: &mut O,
 ) -> Status
     requires rooms { AreRoomsFor (map (λ word. word.now) words.now) rooms }
-    ensures keeps { Promises O.Image.bytes O.returned_known
+    ensures keeps { Promises O.Image.bytes O.Image.past O.returned_known
         (around T.Conversation T.Sink.Sink O.Opener talk.old opener.old)
         (around T.Conversation T.Sink.Sink O.Opener talk.new opener.new) result
         (map (λ word. word.now) words.now) }
@@ -137,6 +139,12 @@ fn run_image<T: Conversation, O: Opener>(
         → IsBeginning O.Image.bytes first
         (around T.Conversation T.Sink.Sink O.Opener talk.old opener.old) O.returned_known
         → AsksOnly (IsAnsweredBy first) (T.asked talk.old) (T.asked talk.new) }
+    ensures fails { O.returned_known ≡ true → result ≡ statuses.ImageFault
+        → EndsAtFailure O.Image.bytes O.Image.past
+        (around T.Conversation T.Sink.Sink O.Opener talk.new opener.new)
+        ⊎ IsNotOpened
+        (around T.Conversation T.Sink.Sink O.Opener talk.old opener.old)
+        (around T.Conversation T.Sink.Sink O.Opener talk.new opener.new) }
 {
     let ScriptRooms {
         mut state,

@@ -2,7 +2,7 @@
 use Rattle.std.specs.Prelude.{◌≡◌, true, Option, List, is_some}
 use Rattle.std.proofs.Common.{◌∙◌}
 use Rattle.ram_outside.specs.Conversation.{Asked, AsksOnly}
-use Rattle.ram_outside.proofs.Asks.{asks_then, asks_mapped}
+use Rattle.ram_outside.proofs.Additions.{added_then, added_mapped}
 use Rattle.ram_text.specs.Lines.{IsOpenAsk}
 use Rattle.ram_script.specs.Asking.{IsAnsweredBy}
 use Rattle.ram_script.specs.Progress.{Beginning, SoFar, View, IsAt, unread}
@@ -18,4 +18,4 @@ module _ (first : Beginning) (far : SoFar first) (view : View) (at : IsAt far vi
 
   -- once the next line was looked for too
   pub asks_on : (a b c : Option (List Asked)) → AsksOnly (IsAnsweredBy first) a b → AsksOnly (IsOpenAsk (unread view) view.due) b c → AsksOnly (IsAnsweredBy first) a c
-  asks_on a b c before asks = asks_then (IsAnsweredBy first) a b c before (asks_mapped (IsOpenAsk (unread view) view.due) (IsAnsweredBy first) answered_by b c asks)
+  asks_on a b c before asks = added_then (IsAnsweredBy first) a b c before (added_mapped (IsOpenAsk (unread view) view.due) (IsAnsweredBy first) answered_by b c asks)

@@ -1,15 +1,16 @@
 -- What opening and closing an image make of a run over it.
-use Rattle.std.specs.Prelude.{◌≡◌, ℕ, Bool, true, Option, Some, IfSome, List}
+use Rattle.std.specs.Prelude.{◌≡◌, ℕ, zero, suc, ◌≤◌, Bool, true, Option, Some, None, IfSome, List, [], ◌∷◌}
 use Rattle.std.specs.Bool.{OnTrue}
 use Rattle.std.proofs.Common.{arith, inl, inr, sym, ap, subst}
 use Rattle.model_counts.specs.Counts.{counted}
+use Rattle.ram_outside.specs.Past.{Moment, OnlyNewestFailed, IsFailStop}
 use Rattle.ram_machine.specs.declared.status.Status.{Status}
 use Rattle.ram_machine.specs.declared.status.Status.TheVariants as statuses
 use Rattle.ram_script.specs.RunCounts.{Counts, counts_of, OnlySinkRose, SourceAndSinkRose, ImageAndSinkRose}
 use Rattle.ram_script.specs.Around.{Surroundings}
 use Rattle.ram_script.specs.Progress.{Beginning, SoFar}
 use Rattle.ram_script.specs.Endings.{Aftermath, Begins, StandsWith, StoodBehind, aftermath}
-use Rattle.ram_script.specs.Opened.{IsBeginning, bytes_returned}
+use Rattle.ram_script.specs.Opened.{IsBeginning, EndsAtFailure, bytes_returned}
 
 -- an image that had not failed was taken back: its failures are the opener's
 module _ (source source' sink sink' faults failed : ℕ) where
@@ -72,3 +73,19 @@ begins_known bytes_of first before returned_known image known is =
 -- the image that was handed back
 pub handed_back : {I : Type 0} (bytes_of : I → Option (List ℕ)) (returned_known : Bool) (image : I) (returned : Option I) → returned_known ≡ true → OnTrue returned_known (returned ≡ Some image) → bytes_returned bytes_of returned ≡ bytes_of image
 handed_back bytes_of returned_known image returned is back = ap (bytes_returned bytes_of) (subst (λ b. OnTrue b (returned ≡ Some image)) is back)
+
+-- the image that was handed back had failed
+fails_once : (faults : ℕ) → 1 ≤ faults → (past : Option (List Moment)) → IfSome past (OnlyNewestFailed faults) → IfSome past (OnlyNewestFailed 1)
+fails_once zero one past only = absurd (omega (arith, one))
+fails_once (suc more) one None only = tt
+fails_once (suc more) one (Some []) only = only
+fails_once (suc more) one (Some (newest ∷ earlier)) only = only
+
+pub ends_at_failure : {I : Type 0} (bytes_of : I → Option (List ℕ)) (faults_of : I → ℕ) (past_of : I → Option (List Moment)) → IsFailStop bytes_of faults_of past_of → (knows : Bool) (image : I) (after : Surroundings I) → knows ≡ true
+    → OnTrue knows (after.opener.returned ≡ Some image) → 1 ≤ faults_of image → EndsAtFailure bytes_of past_of after
+ends_at_failure bytes_of faults_of past_of stops knows image after known back failed = record {
+  image = image;
+  returned_is = subst (λ b. OnTrue b (after.opener.returned ≡ Some image)) known back;
+  only_last = fails_once (faults_of image) failed (past_of image) (stops.failed image);
+  bytes_are = stops.newest image;
+}

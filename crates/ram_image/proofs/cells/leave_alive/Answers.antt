@@ -1,6 +1,7 @@
 use Rattle.std.proofs.Common.{refl}
 use Rattle.ram_image.proofs.Leaving.{left_new, left_torn}
 use Rattle.ram_image.proofs.ByteSteps.{bytes_old, bytes_new, bytes_torn}
+use Rattle.ram_image.proofs.CellMoments.{torn_passes}
 use Rattle.ram_image.proofs.cells.leave_alive.Goals as goal
 
 pub returns-in-New-clause-rule : goal.returns-in-New-clause-rule
@@ -17,3 +18,7 @@ returns-in-New-clause-bytes g c = bytes_new c.args.total c.args.block c.args.fro
 
 pub returns-in-Torn-clause-bytes : goal.returns-in-Torn-clause-bytes
 returns-in-Torn-clause-bytes g c = bytes_torn c.args.total c.args.block c.args.from.now c.args.fate c.requires.inside c.in-Torn.is _ _ _ c.requires.whole c.requires.alive refl c.tear_cell.result c.tear_cell.ensures.bytes
+
+pub returns-in-Torn-clause-past : goal.returns-in-Torn-clause-past
+returns-in-Torn-clause-past g c =
+    torn_passes c.args.total c.args.block c.args.from.now c.args.fate (g.I.Image.bytes c.args.image.now) c.requires.alive (g.I.Image.past c.args.image.now) (g.I.Image.past c.tear_cell.new.image) c.requires.inside c.requires.whole c.in-Torn.is c.tear_cell.ensures.past

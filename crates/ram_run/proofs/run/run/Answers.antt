@@ -50,13 +50,14 @@ returns-in-Some-Run g c =
     let kind = sym c.of_script-rooms.ensures.kind_is in
     let ran = c.run_image.ensures in
     record {
-      keeps = of_script g.O.Image.Image.bytes g.O.Opener.returned_known before after c.run_image.result texts ran.other ran.causes c.in-Some-Run.kind c.in-Some-Run.name.now told (record {
+      keeps = of_script g.O.Image.Image.bytes g.O.Image.Image.past g.O.Opener.returned_known before after c.run_image.result texts ran.other ran.causes c.in-Some-Run.kind c.in-Some-Run.name.now told (record {
         asks = ran.asks;
         run = λ first is known. ran.run first (is ∙ kind) known;
         talks = λ first is known. ran.talks first (is ∙ kind) known;
         promise = λ first is known. promised_by_run g.O.Image.Image.bytes first before after g.O.Opener.returned_known c.run_image.result known (ran.run first (is ∙ kind) known);
         completes = λ first is known language begins none. completes first language begins before.counts after.counts none
             (aftermath_of g.O.Image.Image.bytes after) (IsNotOpened before after) c.run_image.result ran.causes (ran.run first (is ∙ kind) known);
+        fails = ran.fails;
       });
     }
 
@@ -70,11 +71,11 @@ returns-in-Some-Generate g c =
     let laws = g.T.Conversation.laws in
     let ran = c.generate_image.ensures in
     record {
-      keeps = promised_around g.O.Image.Image.bytes g.O.Opener.returned_known _ _ _ _ c.generate_image.result texts
+      keeps = promised_around g.O.Image.Image.bytes g.O.Image.Image.past g.O.Opener.returned_known _ _ _ _ c.generate_image.result texts
           (around_with g.T.Conversation g.T.Sink.Sink g.O.Opener c.args.talk.now c.args.talk.now c.report_mut.result.now c.args.opener.now refl refl refl (sym c.report_mut.ensures.sink))
           (around_with g.T.Conversation g.T.Sink.Sink g.O.Opener c.args.talk.now (g.T.Conversation.with_report c.args.talk.now c.generate_image.new.report) c.generate_image.new.report c.generate_image.new.opener
           (laws.same_left _ _) (laws.same_faults _ _) (laws.same_asked _ _) (laws.report_is _ _))
-          (of_drawn g.O.Image.Image.bytes g.O.Opener.returned_known before after c.generate_image.result texts ran.other (ran.causes heard) c.in-Some-Generate.name.now c.in-Some-Generate.seed told (record {
+          (of_drawn g.O.Image.Image.bytes g.O.Image.Image.past g.O.Opener.returned_known before after c.generate_image.result texts ran.other (ran.causes heard) c.in-Some-Generate.name.now c.in-Some-Generate.seed told (record {
             asks = record { asks = ran.asks heard; left = refl; asked = refl; count = refl };
             generate = ran.generate heard;
           }));
@@ -90,11 +91,11 @@ returns-in-Some-Audit g c =
     let laws = g.T.Conversation.laws in
     let ran = c.audit_image.ensures in
     record {
-      keeps = promised_around g.O.Image.Image.bytes g.O.Opener.returned_known _ _ _ _ c.audit_image.result texts
+      keeps = promised_around g.O.Image.Image.bytes g.O.Image.Image.past g.O.Opener.returned_known _ _ _ _ c.audit_image.result texts
           (around_with g.T.Conversation g.T.Sink.Sink g.O.Opener c.args.talk.now c.args.talk.now c.report_mut-in-Some-Audit.result.now c.args.opener.now refl refl refl (sym c.report_mut-in-Some-Audit.ensures.sink))
           (around_with g.T.Conversation g.T.Sink.Sink g.O.Opener c.args.talk.now (g.T.Conversation.with_report c.args.talk.now c.audit_image.new.report) c.audit_image.new.report c.audit_image.new.opener
           (laws.same_left _ _) (laws.same_faults _ _) (laws.same_asked _ _) (laws.report_is _ _))
-          (of_audit g.O.Image.Image.bytes g.O.Opener.returned_known before after c.audit_image.result texts ran.other (ran.causes heard) c.in-Some-Audit.name.now told (record {
+          (of_audit g.O.Image.Image.bytes g.O.Image.Image.past g.O.Opener.returned_known before after c.audit_image.result texts ran.other (ran.causes heard) c.in-Some-Audit.name.now told (record {
             asks = record { asks = ran.asks heard; left = refl; asked = refl; count = refl };
             tells = ran.tells heard;
           }));
@@ -107,7 +108,7 @@ returns-in-Some-Check g c =
     let before = around g.T.Conversation g.T.Sink.Sink g.O.Opener c.args.talk.now c.args.opener.now in
     let after = around g.T.Conversation g.T.Sink.Sink g.O.Opener c.check_image.new.talk c.check_image.new.opener in
     let ran = c.check_image.ensures in
-    record { keeps = of_check g.O.Image.Image.bytes g.O.Opener.returned_known before after c.check_image.result texts ran.other ran.causes c.in-Some-Check.name.now told (record { asks = ran.asks; tells = ran.tells }) }
+    record { keeps = of_check g.O.Image.Image.bytes g.O.Image.Image.past g.O.Opener.returned_known before after c.check_image.result texts ran.other ran.causes c.in-Some-Check.name.now told (record { asks = ran.asks; tells = ran.tells }) }
 
 pub returns-in-Some-Help : goal.returns-in-Some-Help
 returns-in-Some-Help g c =
@@ -119,11 +120,11 @@ returns-in-Some-Help g c =
     let laws = g.T.Conversation.laws in
     let wrote = c.write_text.ensures in
     record {
-      keeps = promised_around g.O.Image.Image.bytes g.O.Opener.returned_known _ _ _ _ c.write_text.result texts
+      keeps = promised_around g.O.Image.Image.bytes g.O.Image.Image.past g.O.Opener.returned_known _ _ _ _ c.write_text.result texts
           (around_with g.T.Conversation g.T.Sink.Sink g.O.Opener c.args.talk.now c.args.talk.now c.report_mut-in-Some-Help.result.now c.args.opener.now refl refl refl (sym c.report_mut-in-Some-Help.ensures.sink))
           (around_with g.T.Conversation g.T.Sink.Sink g.O.Opener c.args.talk.now (g.T.Conversation.with_report c.args.talk.now c.write_text.new.report) c.write_text.new.report c.args.opener.now
           (laws.same_left _ _) (laws.same_faults _ _) (laws.same_asked _ _) (laws.report_is _ _))
-          (of_help g.O.Image.Image.bytes g.O.Opener.returned_known before after c.write_text.result texts wrote.other
+          (of_help g.O.Image.Image.bytes g.O.Image.Image.past g.O.Opener.returned_known before after c.write_text.result texts wrote.other
           (text_counts heard.faults (g.O.Opener.faults c.args.opener.now) _ _ c.write_text.result wrote.count) told
           (record { unread = refl; unasked = refl; unopened = refl }, wrote.writes));
     }
@@ -138,11 +139,11 @@ returns-in-Some-Version g c =
     let laws = g.T.Conversation.laws in
     let wrote = c.write_text-in-Some-Version.ensures in
     record {
-      keeps = promised_around g.O.Image.Image.bytes g.O.Opener.returned_known _ _ _ _ c.write_text-in-Some-Version.result texts
+      keeps = promised_around g.O.Image.Image.bytes g.O.Image.Image.past g.O.Opener.returned_known _ _ _ _ c.write_text-in-Some-Version.result texts
           (around_with g.T.Conversation g.T.Sink.Sink g.O.Opener c.args.talk.now c.args.talk.now c.report_mut-in-Some-Version.result.now c.args.opener.now refl refl refl (sym c.report_mut-in-Some-Version.ensures.sink))
           (around_with g.T.Conversation g.T.Sink.Sink g.O.Opener c.args.talk.now (g.T.Conversation.with_report c.args.talk.now c.write_text-in-Some-Version.new.report) c.write_text-in-Some-Version.new.report c.args.opener.now
           (laws.same_left _ _) (laws.same_faults _ _) (laws.same_asked _ _) (laws.report_is _ _))
-          (of_version g.O.Image.Image.bytes g.O.Opener.returned_known before after c.write_text-in-Some-Version.result texts wrote.other
+          (of_version g.O.Image.Image.bytes g.O.Image.Image.past g.O.Opener.returned_known before after c.write_text-in-Some-Version.result texts wrote.other
           (text_counts heard.faults (g.O.Opener.faults c.args.opener.now) _ _ c.write_text-in-Some-Version.result wrote.count) told
           (record { unread = refl; unasked = refl; unopened = refl }, wrote.writes));
     }
@@ -152,4 +153,4 @@ returns-in-None g c =
     let texts : List (List ℕ) = map (λ (word : Bor (List ℕ)). word.now) c.args.words.now in
     let before = around g.T.Conversation g.T.Sink.Sink g.O.Opener c.args.talk.now c.args.opener.now in
     let none = rw c.in-None.is at c.form_of.ensures in
-    record { keeps = of_none g.O.Image.Image.bytes g.O.Opener.returned_known before before statuses.Usage texts refl none refl }
+    record { keeps = of_none g.O.Image.Image.bytes g.O.Image.Image.past g.O.Opener.returned_known before before statuses.Usage texts refl none refl }

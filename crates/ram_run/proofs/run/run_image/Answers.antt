@@ -1,12 +1,13 @@
 use Rattle.std.proofs.Common.{rules, inl, refl, subst, Option, List}
 use Rattle.ram_outside.specs.Conversation.{Asked, AsksOnly}
-use Rattle.ram_outside.proofs.Asks.{asks_none}
+use Rattle.ram_outside.proofs.Additions.{added_none}
 use Rattle.ram_script.specs.Asking.{IsAnsweredBy}
 use Rattle.ram_text.specs.Dialogue.{sink_of, talk_of}
-use Rattle.ram_script.specs.Endings.{aftermath}
+use Rattle.ram_machine.specs.declared.status.Status.TheVariants as statuses
+use Rattle.ram_script.specs.Endings.{StatusCounts, aftermath}
 use Rattle.ram_script.specs.RunCounts.{counts_of}
 use Rattle.ram_script.specs.Around.{around}
-use Rattle.ram_script.proofs.Closes.{stands_there, renamed, begins_known, handed_back}
+use Rattle.ram_script.proofs.Closes.{stands_there, renamed, begins_known, handed_back, ends_at_failure}
 use Rattle.ram_run.proofs.run.run_image.Goals as goal
 
 pub returns-clause-run : goal.returns-clause-run
@@ -34,4 +35,11 @@ returns-clause-talks g c first kind known =
     ((rw c.new-dialogue.ensures.talk_is at (c.serve-image.ensures.asks first)) kind begins)
 
 pub returns-in-Failed-clause-talks : goal.returns-in-Failed-clause-talks
-returns-in-Failed-clause-talks g c first kind known = asks_none (IsAnsweredBy first) (g.T.Conversation.asked c.args.talk.now)
+returns-in-Failed-clause-talks g c first kind known = added_none (IsAnsweredBy first) (g.T.Conversation.asked c.args.talk.now)
+
+pub returns-clause-fails : goal.returns-clause-fails
+returns-clause-fails g c known is =
+    let after = around g.T.Conversation g.T.Sink.Sink g.O.Opener (talk_of c.serve-image.new.dialogue) c.close.new.self in
+    let counts : StatusCounts _ _ statuses.ImageFault = rw is at c.serve-image.ensures.counts in
+    inl (ends_at_failure g.O.Image.Image.bytes g.O.Image.Image.faults g.O.Image.Image.past g.O.Image.Image.laws g.O.Opener.returned_known c.serve-image.result.0 _ known c.close.ensures.returned
+    (rw c.in-Image.ensures.unfailed at counts.image))

@@ -1,5 +1,5 @@
 use Rattle.std.proofs.Common.{◌∙◌, refl}
-use Rattle.ram_outside.proofs.Asks.{asks_none}
+use Rattle.ram_outside.proofs.Additions.{added_none}
 use Rattle.ram_script.specs.Asking.{IsAnsweredBy}
 use Rattle.ram_text.specs.Dialogue.{due_in, gathered_of, shown_of, sink_of, talk_of}
 use Rattle.ram_machine.specs.Inserted.{Stands, faults_of}
@@ -50,4 +50,4 @@ returns-clause-asks g c first kind b =
     (due_known (g.T.Sink.Sink.written (sink_of g.T.Conversation c.args.dialogue.now)) (gathered_of c.args.dialogue.now) first.report b.written_is))
 
 pub returns-in-Err-clause-asks : goal.returns-in-Err-clause-asks
-returns-in-Err-clause-asks g c first kind b = asks_none (IsAnsweredBy first) (g.T.Conversation.asked (talk_of c.args.dialogue.now))
+returns-in-Err-clause-asks g c first kind b = added_none (IsAnsweredBy first) (g.T.Conversation.asked (talk_of c.args.dialogue.now))

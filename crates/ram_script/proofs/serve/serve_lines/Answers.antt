@@ -1,5 +1,5 @@
 use Rattle.std.proofs.Common.{rules, arith, refl, ap, ◌∙◌, Option, List, ℕ, is_some}
-use Rattle.ram_outside.proofs.Asks.{asks_none}
+use Rattle.ram_outside.proofs.Additions.{added_none}
 use Rattle.ram_script.specs.Asking.{IsAnsweredBy}
 use Rattle.ram_text.specs.Lines.{Reading}
 use Rattle.ram_text.specs.Dialogue.{reader_of, talk_of}
@@ -92,7 +92,7 @@ pub loop-stopped-init : goal.loop-stopped-init
 loop-stopped-init g c = record {
   same = search rules;
   between = λ first b. b;
-  asks = λ first b known. asks_none (IsAnsweredBy first) (g.T.Conversation.asked (talk_of c.args.dialogue.now));
+  asks = λ first b known. added_none (IsAnsweredBy first) (g.T.Conversation.asked (talk_of c.args.dialogue.now));
   counts = search rules;
   known = refl;
   room = c.requires.room;

@@ -12,6 +12,7 @@ returns-in-Unreadable g c = record {
       c.read_bytes-end.result (λ e. let both : reads.Unreadable ≡ reads.Done = sym c.in-Unreadable.is ∙ e in cc) (c.swap-in-Unreadable.ensures.y_after ∙ c.read_bytes-end.ensures.same_room ∙ c.swap.ensures.x_after) c.read_bytes-end.ensures.event.exactly;
   same_shape = c.read_bytes-end.ensures.event.same_shape;
   bytes = c.read_bytes-end.ensures.event.bytes;
+  past = c.read_bytes-end.ensures.event.past;
 }
 
 pub returns-in-Cut : goal.returns-in-Cut
@@ -21,6 +22,7 @@ returns-in-Cut g c = record {
       c.read_bytes-end.result (λ e. let both : reads.Cut ≡ reads.Done = sym c.in-Cut.is ∙ e in cc) (c.swap-in-Cut.ensures.y_after ∙ c.read_bytes-end.ensures.same_room ∙ c.swap.ensures.x_after) c.read_bytes-end.ensures.event.exactly;
   same_shape = c.read_bytes-end.ensures.event.same_shape;
   bytes = c.read_bytes-end.ensures.event.bytes;
+  past = c.read_bytes-end.ensures.event.past;
 }
 
 pub returns-in-Off : goal.returns-in-Off
@@ -30,6 +32,7 @@ returns-in-Off g c = record {
       c.read_bytes-end.result (λ e. let both : reads.Off ≡ reads.Done = sym c.in-Off.is ∙ e in cc) (c.swap-in-Off.ensures.y_after ∙ c.read_bytes-end.ensures.same_room ∙ c.swap.ensures.x_after) c.read_bytes-end.ensures.event.exactly;
   same_shape = c.read_bytes-end.ensures.event.same_shape;
   bytes = c.read_bytes-end.ensures.event.bytes;
+  past = c.read_bytes-end.ensures.event.past;
 }
 
 pub returns-in-Failed : goal.returns-in-Failed
@@ -39,4 +42,5 @@ returns-in-Failed g c = record {
       c.read_bytes-end.result (λ e. let both : reads.Failed ≡ reads.Done = sym c.in-Failed.is ∙ e in cc) (c.swap-in-Failed.ensures.y_after ∙ c.read_bytes-end.ensures.same_room ∙ c.swap.ensures.x_after) c.read_bytes-end.ensures.event.exactly;
   same_shape = c.read_bytes-end.ensures.event.same_shape;
   bytes = c.read_bytes-end.ensures.event.bytes;
+  past = c.read_bytes-end.ensures.event.past;
 }
