@@ -23,7 +23,7 @@ use Rattle.ram_machine.proofs.ToldTurns.{told_answer, told_turn}
 use Rattle.model_drive.specs.declared.Kind.{Kind}
 use Rattle.model_drive.specs.declared.Kind.TheVariants as kinds
 use Rattle.model_sectors.specs.Discs.{zeros}
-use Rattle.ram_machine.specs.Register.{synchronised_if, or_else, is_midway, AfterFull, AfterRewrite, AfterFormat, Value, Bytes, Lost, bytes_in, Register, settled, gone, powered, synchronised, left_by, left_in, goes_through, AfterWrite, AfterGood, AfterOther, AfterCommand, AfterPower, AfterPress, Turn, Turns}
+use Rattle.ram_machine.specs.Register.{synchronised_if, or_else, is_midway, AfterFull, AfterRewrite, AfterFormat, Value, Bytes, Lost, bytes_held, Register, settled, gone, powered, synchronised, left_by, left_in, goes_through, AfterWrite, AfterGood, AfterOther, AfterCommand, AfterPower, AfterPress, Turn, Turns}
 
 -- the bytes of a value are among these
 abbrev pub IsIn : List (List ℕ) → Value → Type 0
@@ -34,18 +34,18 @@ later_in : (bytes : List ℕ) (choices : List (List ℕ)) (value : Value) → Is
 later_in bytes choices (Bytes found) there = Contains-later bytes choices found there
 later_in bytes choices Lost there = tt
 
-first_in : (first : Value) (values : List Value) → IsIn (bytes_in (first ∷ values)) first
-first_in (Bytes bytes) values = Contains-first bytes (bytes_in values)
+first_in : (first : Value) (values : List Value) → IsIn (bytes_held (first ∷ values)) first
+first_in (Bytes bytes) values = Contains-first bytes (bytes_held values)
 first_in Lost values = tt
 
-past_first : (first : Value) (values : List Value) (value : Value) → IsIn (bytes_in values) value → IsIn (bytes_in (first ∷ values)) value
-past_first (Bytes bytes) values value there = later_in bytes (bytes_in values) value there
+past_first : (first : Value) (values : List Value) (value : Value) → IsIn (bytes_held values) value → IsIn (bytes_held (first ∷ values)) value
+past_first (Bytes bytes) values value there = later_in bytes (bytes_held values) value there
 past_first Lost values value there = there
 
-in_bytes : (values : List Value) (value : Value) → Contains values value → IsIn (bytes_in values) value
+in_bytes : (values : List Value) (value : Value) → Contains values value → IsIn (bytes_held values) value
 in_bytes [] value there = absurd (Contains-none value there)
 in_bytes (first ∷ values) value there = elim (Contains-cases first values value there) [
-  | inl is ↦ subst (IsIn (bytes_in (first ∷ values))) is (first_in first values)
+  | inl is ↦ subst (IsIn (bytes_held (first ∷ values))) is (first_in first values)
   | inr more ↦ past_first first values value (in_bytes values value more)
 ]
 
@@ -277,10 +277,10 @@ module _ (at : ℕ) where
 
   -- what it has then is zeros, one that it might have at first, or one that was sent
   pub one_of_them : (r after : Register) (answered : List AnsweredStep) (found : List ℕ) → Turns at r answered after → r.now ≡ None → after.now ≡ Some (Bytes found)
-      → Contains (choices_after at answered (zeros 2048 ∷ bytes_in r.falls)) found
+      → Contains (choices_after at answered (zeros 2048 ∷ bytes_held r.falls)) found
   one_of_them r after answered found turns none is =
-      (by_lines (zeros 2048 ∷ bytes_in r.falls) r after answered turns (record {
-        zero = Contains-first (zeros 2048) (bytes_in r.falls);
-        shows = λ other some. none_found (IsIn (zeros 2048 ∷ bytes_in r.falls)) other (sym none ∙ some);
-        falls = λ other there. later_in (zeros 2048) (bytes_in r.falls) other (in_bytes r.falls other there);
+      (by_lines (zeros 2048 ∷ bytes_held r.falls) r after answered turns (record {
+        zero = Contains-first (zeros 2048) (bytes_held r.falls);
+        shows = λ other some. none_found (IsIn (zeros 2048 ∷ bytes_held r.falls)) other (sym none ∙ some);
+        falls = λ other there. later_in (zeros 2048) (bytes_held r.falls) other (in_bytes r.falls other there);
       })).shows (Bytes found) is

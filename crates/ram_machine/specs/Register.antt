@@ -190,10 +190,10 @@ pub record HasSettled (r : Register) (bytes : List ℕ) : Type 0 where
   pub falls : (found : Value) → Contains r.falls found → found ≡ Bytes bytes
 
 -- the bytes among these values (for laws alone)
-abbrev pub bytes_in : List Value → List (List ℕ)
-bytes_in [] = []
-bytes_in (Bytes bytes ∷ values) = bytes ∷ bytes_in values
-bytes_in (Lost ∷ values) = bytes_in values
+abbrev pub bytes_held : List Value → List (List ℕ)
+bytes_held [] = []
+bytes_held (Bytes bytes ∷ values) = bytes ∷ bytes_held values
+bytes_held (Lost ∷ values) = bytes_held values
 
 -- The image was handed back, and opened by another run: what cannot be read of it is lost there.
 abbrev pub reopened : Register → Register

@@ -8,7 +8,7 @@ ghost use Rattle.ram_machine.specs.SectorBytes.{bytes_of_sector, is_sector_among
 ghost use Rattle.ram_machine.specs.States.{State, kind_of, IsFirst, IsLeft};
 ghost use Rattle.ram_machine.specs.Runs.{Run};
 ghost use Rattle.ram_machine.specs.Answered.{AnsweredStep};
-ghost use Rattle.ram_machine.specs.Register.{Register, Bytes, bytes_in, goes_through, Turn, Turns, IsRegister, HasSettled, IsRegisterAgain};
+ghost use Rattle.ram_machine.specs.Register.{Register, Bytes, bytes_held, goes_through, Turn, Turns, IsRegister, HasSettled, IsRegisterAgain};
 
 /// Each sector is a register over a run, from the image's bytes on, and over the next run, whose discs have the same kind of layout,
 /// from where the first one left it.
@@ -43,5 +43,5 @@ pub fn settled_bytes_are_shown()
 pub fn nothing_else_is_shown()
     ensures { (at : ℕ) (r after : Register) (events : List AnsweredStep) (found : List ℕ)
         → Turns at r events after → r.now ≡ None → after.now ≡ Some (Bytes found)
-        → Contains (choices_after at events (zeros 2048 ∷ bytes_in r.falls)) found }
+        → Contains (choices_after at events (zeros 2048 ∷ bytes_held r.falls)) found }
 {}

@@ -10,8 +10,8 @@ abbrev pub asked_of : MemAsked → Asked
 asked_of asked = asked_with (Some asked.left.items) (Some asked.written.items)
 
 -- how it stood whenever more was asked for, the newest first, unless it was forgotten
-abbrev pub asked_in : MemConversation → Option (List Asked)
-asked_in talk = if talk.forgot then None else Some (reverse (map asked_of talk.asked.items))
+abbrev pub asks_known : MemConversation → Option (List Asked)
+asks_known talk = if talk.forgot then None else Some (reverse (map asked_of talk.asked.items))
 
 -- the times that are kept, the oldest first; none where it was forgotten
 abbrev pub asks_kept : MemConversation → List MemAsked
@@ -25,4 +25,4 @@ with_mem_sink talk sink = record talk { report = sink }
 pub record NotesNow (old new : MemConversation) : Type 0 where
   pub script : new.script ≡ old.script
   pub report : new.report ≡ old.report
-  pub asks : AsksNow (asked_with (Some old.script.left) (Some old.report.written)) (asked_in old) (asked_in new)
+  pub asks : AsksNow (asked_with (Some old.script.left) (Some old.report.written)) (asks_known old) (asks_known new)

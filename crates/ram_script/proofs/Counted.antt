@@ -9,7 +9,7 @@ use Rattle.ram_script.specs.declared.counts.AnswerCounts.{AnswerCounts}
 use Rattle.ram_script.specs.declared.counts.SenseCount.{SenseCount}
 use Rattle.ram_machine.specs.declared.reply.Reply.{Reply}
 use Rattle.ram_machine.specs.declared.reply.Reply.TheVariants as replies
-use Rattle.ram_script.specs.Counting.{is_same_sense, is_good, is_cut, is_off, is_check, times, sense_count_of, counts_in, raised_by, with_reply, AreAtMost}
+use Rattle.ram_script.specs.Counting.{is_same_sense, is_told_good, is_cut, is_off, is_check, times, sense_count_of, counts_in, raised_by, with_reply, AreAtMost}
 use Rattle.ram_script.specs.Answered.{AnsweredLine}
 
 -- one more where it is so
@@ -23,7 +23,7 @@ row_after reply events sense = record { sense = sense; times = one_if (is_check 
 -- the counts of these lines and one more with this reply
 abbrev counts_after : Reply → List AnsweredLine → AnswerCounts
 counts_after reply events = record {
-  good = one_if (is_good reply) (times is_good events);
+  good = one_if (is_told_good reply) (times is_told_good events);
   cut = one_if (is_cut reply) (times is_cut events);
   off = one_if (is_off reply) (times is_off events);
   checks = map (row_after reply events) senses;
@@ -46,7 +46,7 @@ rows_raised cdb given events (sense ∷ of) =
 
 -- the counts of these lines, but with other counts of senses
 abbrev with_checks : List AnsweredLine → List SenseCount → AnswerCounts
-with_checks events rows = record { good = times is_good events; cut = times is_cut events; off = times is_off events; checks = rows }
+with_checks events rows = record { good = times is_told_good events; cut = times is_cut events; off = times is_off events; checks = rows }
 
 by_reply : (reply : Reply) (events : List AnsweredLine) → with_reply (counts_in events) reply ≡ counts_after reply events
 by_reply replies.Nothing events = refl

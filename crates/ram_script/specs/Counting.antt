@@ -14,9 +14,9 @@ abbrev pub is_same_sense : Sense → Sense → Bool
 is_same_sense a b = (a.key == b.key) && (a.asc == b.asc) && (a.ascq == b.ascq)
 
 -- whether a command was answered good
-abbrev pub is_good : Reply → Bool
-is_good (replies.Command cdb answers.Good) = true
-is_good _ = false
+abbrev pub is_told_good : Reply → Bool
+is_told_good (replies.Command cdb answers.Good) = true
+is_told_good _ = false
 
 -- whether a command was cut
 abbrev pub is_cut : Reply → Bool
@@ -45,7 +45,7 @@ sense_count_of events sense = record { sense = sense; times = times (is_check se
 -- how the commands of these lines were answered
 abbrev pub counts_in : List AnsweredLine → AnswerCounts
 counts_in events = record {
-  good = times is_good events;
+  good = times is_told_good events;
   cut = times is_cut events;
   off = times is_off events;
   checks = map (sense_count_of events) senses;

@@ -6,7 +6,7 @@ use Rattle.model_sense.specs.declared.sense.Sense.{Sense}
 use Rattle.model_target.specs.Senses.{senses}
 use Rattle.ram_script.specs.declared.counts.AnswerCounts.{AnswerCounts}
 use Rattle.ram_script.specs.declared.state.Tally.{Tally}
-use Rattle.ram_script.specs.Counting.{is_good, is_cut, is_off, is_check, times, sense_count_of, counts_in}
+use Rattle.ram_script.specs.Counting.{is_told_good, is_cut, is_off, is_check, times, sense_count_of, counts_in}
 use Rattle.ram_script.specs.Progress.{Beginning, SoFar, IsTallied}
 use Rattle.ram_script.specs.Answered.{AnsweredLine}
 use Rattle.ram_summary.specs.Summary.{count_text, check_text, came_in, summary_text, row_text, tally_text}
@@ -35,6 +35,6 @@ tally_is_summary seed first far tally tallied =
     before : List ℕ → List ℕ
     before text =
         count_text (codes "generated ") seed
-        ++ (count_text (codes "good ") (times is_good far.events)
+        ++ (count_text (codes "good ") (times is_told_good far.events)
         ++ (count_text (codes "cut ") (times is_cut far.events)
         ++ (count_text (codes "off ") (times is_off far.events) ++ text)))

@@ -6,7 +6,7 @@ use Rattle.model_target.specs.Senses.{senses}
 use Rattle.ram_report.specs.ReportLines.{sense_code}
 use Rattle.ram_script.specs.declared.counts.SenseCount.{SenseCount}
 use Rattle.ram_script.specs.declared.state.Tally.{Tally}
-use Rattle.ram_script.specs.Counting.{is_good, is_cut, is_off, is_check, times}
+use Rattle.ram_script.specs.Counting.{is_told_good, is_cut, is_off, is_check, times}
 use Rattle.ram_script.specs.Answered.{AnsweredLine}
 
 -- these words, a number, and the end of the line (this project's own, as all here)
@@ -26,7 +26,7 @@ came_in events sense = not (times (is_check sense) events == 0)
 abbrev pub summary_text : (seed : ℕ) → List AnsweredLine → List ℕ
 summary_text seed events =
     count_text (codes "generated ") seed
-    ++ (count_text (codes "good ") (times is_good events)
+    ++ (count_text (codes "good ") (times is_told_good events)
     ++ (count_text (codes "cut ") (times is_cut events)
     ++ (count_text (codes "off ") (times is_off events)
     ++ (flat_map (λ sense. check_text sense (times (is_check sense) events)) (filter (came_in events) senses)

@@ -30,10 +30,10 @@ passed before n inside limit clear by_line by_script End first = elim first [ ]
 passed before n inside limit clear by_line by_script Failed first = elim first [ ]
 
 -- the first line feed comes too late
-pub passed_late : (before : Reading) (place : ℕ) → before.taken ≤ 67108864 → FeedAt before.buffered place → min (67108864 - before.taken) 70001 ≤ place → (answer : NextLine) → PassedFirst before.taken answer → CutRule before (without_line before) (Some answer)
-passed_late before place limit at late =
-    let inside : place < length before.buffered = at.inside in
-    passed before place (omega arith) limit at.first (λ h. omega arith) (λ h. (omega arith, omega arith))
+pub passed_late : (before : Reading) (offset : ℕ) → before.taken ≤ 67108864 → FeedAt before.buffered offset → min (67108864 - before.taken) 70001 ≤ offset → (answer : NextLine) → PassedFirst before.taken answer → CutRule before (without_line before) (Some answer)
+passed_late before offset limit at late =
+    let inside : offset < length before.buffered = at.inside in
+    passed before offset (omega arith) limit at.first (λ h. omega arith) (λ h. (omega arith, omega arith))
 
 -- no line feed comes, and too many bytes
 pub passed_whole : (before : Reading) → before.taken ≤ 67108864 → HasNoFeed before.buffered → min (67108864 - before.taken) 70000 < length before.buffered → (answer : NextLine) → PassedFirst before.taken answer → CutRule before (without_line before) (Some answer)
@@ -41,15 +41,15 @@ passed_whole before limit clear longer =
     passed before (length before.buffered) (omega arith) limit (subst HasNoFeed (sym (take_all (length before.buffered) before.buffered (omega arith))) clear) (λ h. omega arith) (λ h. (omega arith, omega arith))
 
 -- a line that ends within both limits is taken
-pub took : (bytes : List ℕ) (start end place taken : ℕ) (line : List ℕ) → taken ≤ 67108864 → FeedAt (slice_range bytes start end) place → place < min (67108864 - taken) 70001
-    → TookLine (record { line = line; buffered = slice_range bytes start end; taken = taken }) (record { line = slice_range bytes start (start + place); buffered = slice_range bytes (start + place + 1) end; taken = taken + (place + 1) })
-took bytes start end place taken line limit at within =
+pub took : (bytes : List ℕ) (start end offset taken : ℕ) (line : List ℕ) → taken ≤ 67108864 → FeedAt (slice_range bytes start end) offset → offset < min (67108864 - taken) 70001
+    → TookLine (record { line = line; buffered = slice_range bytes start end; taken = taken }) (record { line = slice_range bytes start (start + offset); buffered = slice_range bytes (start + offset + 1) end; taken = taken + (offset + 1) })
+took bytes start end offset taken line limit at within =
     let held : List ℕ = slice_range bytes start end in
-    let inside : place < length held = at.inside in
-    let prefix : take place held ≡ slice_range bytes start (start + place) = slice_before_feed bytes start end place at in
-    let len : length (slice_range bytes start (start + place)) ≡ place = sym (ap length prefix) ∙ length-take-le place held (omega arith) in
+    let inside : offset < length held = at.inside in
+    let prefix : take offset held ≡ slice_range bytes start (start + offset) = slice_before_feed bytes start end offset at in
+    let len : length (slice_range bytes start (start + offset)) ≡ offset = sym (ap length prefix) ∙ length-take-le offset held (omega arith) in
     record {
-      parts = slice_at_feed bytes start end place at;
+      parts = slice_at_feed bytes start end offset at;
       one = subst HasNoFeed prefix at.first;
       short = omega arith;
       grew = omega arith;

@@ -12,11 +12,11 @@ HasNoFeed-joined bytes n m le prefix back k d lt is =
     let here : get_or bytes k 0 ≡ 10 = get_or_default bytes k 0 d (omega arith) ∙ (sym (get_or-take m bytes k d below) ∙ is) in
     ⊎_elim (λ (lower : k < n). prefix k 0 (omega (arith, length-take n bytes)) (get_or-take n bytes k 0 lower ∙ here)) (λ higher. back k higher below here) (cases_lt k n)
 
--- a place behind the first n at which the search of the back found nothing
+-- a offset behind the first n at which the search of the back found nothing
 not_behind : (bytes : List ℕ) (n j k : ℕ) → n ≤ k → k < n + j → Nowhere (Passes (is_byte 10) (drop n bytes)) 0 j → get_or bytes k 0 ≢ 10
 not_behind bytes n j k le lt nowhere is =
-    let place : n + (k - n) ≡ k = omega arith in
-    nowhere (k - n) (omega arith) (omega arith) (eq-eqb _ 10 (get_or-drop n bytes (k - n) 0 ∙ (ap (λ i. get_or bytes i 0) place ∙ is)))
+    let offset : n + (k - n) ≡ k = omega arith in
+    nowhere (k - n) (omega arith) (omega arith) (eq-eqb _ 10 (get_or-drop n bytes (k - n) 0 ∙ (ap (λ i. get_or bytes i 0) offset ∙ is)))
 
 pub feed_missed : (bytes : List ℕ) (n : ℕ) → n ≤ length bytes → HasNoFeed (take n bytes) → IsFirstByte (is_byte 10) (take (length bytes - n) (drop n bytes)) None → HasNoFeed bytes
 feed_missed bytes n le prefix searched =
@@ -44,11 +44,11 @@ pub HasNoFeed-shorter : (bytes : List ℕ) (m n : ℕ) → m ≤ n → HasNoFeed
 HasNoFeed-shorter bytes m n le clear = subst HasNoFeed (take-take m n bytes le) (HasNoFeed-prefix (take n bytes) m clear)
 
 -- no list has its first line feed behind a front that has none
-pub feed_not_within : (bytes : List ℕ) (place n : ℕ) → FeedAt bytes place → HasNoFeed (take n bytes) → n ≤ place
-feed_not_within bytes place n at clear =
-    ⊎_elim (λ (lower : place < n). let inside : place < length bytes = at.inside in absurd (clear place 0 (omega (arith, length-take n bytes)) (get_or-take n bytes place 0 lower ∙ at.feed))) (λ le. le) (cases_lt place n)
+pub feed_not_within : (bytes : List ℕ) (offset n : ℕ) → FeedAt bytes offset → HasNoFeed (take n bytes) → n ≤ offset
+feed_not_within bytes offset n at clear =
+    ⊎_elim (λ (lower : offset < n). let inside : offset < length bytes = at.inside in absurd (clear offset 0 (omega (arith, length-take n bytes)) (get_or-take n bytes offset 0 lower ∙ at.feed))) (λ le. le) (cases_lt offset n)
 
--- the first line feed is at one place
+-- the first line feed is at one offset
 pub FeedAt-one : (bytes : List ℕ) (a b : ℕ) → FeedAt bytes a → FeedAt bytes b → a ≡ b
 FeedAt-one bytes a b first second =
     let low = feed_not_within bytes a b first second.first in
@@ -56,24 +56,24 @@ FeedAt-one bytes a b first second =
     omega arith
 
 -- what lies between two places is a line, its line feed, and what lies behind it
-pub slice_at_feed : (bytes : List ℕ) (start end place : ℕ) → FeedAt (slice_range bytes start end) place → slice_range bytes start end ≡ slice_range bytes start (start + place) ++ (10 ∷ slice_range bytes (start + place + 1) end)
-slice_at_feed bytes start end place at =
+pub slice_at_feed : (bytes : List ℕ) (start end offset : ℕ) → FeedAt (slice_range bytes start end) offset → slice_range bytes start end ≡ slice_range bytes start (start + offset) ++ (10 ∷ slice_range bytes (start + offset + 1) end)
+slice_at_feed bytes start end offset at =
     let held : List ℕ = slice_range bytes start end in
-    let inside : place < length held = at.inside in
-    let longer : place < end - start = omega (arith, length-take (end - start) (drop start bytes)) in
-    let prefix : take place held ≡ slice_range bytes start (start + place) =
-    take-take place (end - start) (drop start bytes) (omega arith) ∙ ap (λ n. take n (drop start bytes)) (let e : place ≡ start + place - start = omega arith in e) in
-    let back : drop (place + 1) held ≡ slice_range bytes (start + place + 1) end =
-    ap (λ n. drop (place + 1) (take n (drop start bytes))) (let e : end - start ≡ place + 1 + (end - (start + place + 1)) = omega arith in e)
-    ∙ drop-take (place + 1) (end - (start + place + 1)) (drop start bytes)
-    ∙ ap (take (end - (start + place + 1))) (drop-drop (place + 1) start bytes ∙ ap (λ n. drop n bytes) (let e : start + (place + 1) ≡ start + place + 1 = omega arith in e)) in
-    sym (take-append-drop place held) ∙ ap (λ xs. take place held ++ xs) (drop_more held place 0 inside ∙ ap (λ x. x ∷ drop (place + 1) held) at.feed)
-    ∙ ap (λ xs. xs ++ (10 ∷ drop (place + 1) held)) prefix ∙ ap (λ xs. slice_range bytes start (start + place) ++ (10 ∷ xs)) back
+    let inside : offset < length held = at.inside in
+    let longer : offset < end - start = omega (arith, length-take (end - start) (drop start bytes)) in
+    let prefix : take offset held ≡ slice_range bytes start (start + offset) =
+    take-take offset (end - start) (drop start bytes) (omega arith) ∙ ap (λ n. take n (drop start bytes)) (let e : offset ≡ start + offset - start = omega arith in e) in
+    let back : drop (offset + 1) held ≡ slice_range bytes (start + offset + 1) end =
+    ap (λ n. drop (offset + 1) (take n (drop start bytes))) (let e : end - start ≡ offset + 1 + (end - (start + offset + 1)) = omega arith in e)
+    ∙ drop-take (offset + 1) (end - (start + offset + 1)) (drop start bytes)
+    ∙ ap (take (end - (start + offset + 1))) (drop-drop (offset + 1) start bytes ∙ ap (λ n. drop n bytes) (let e : start + (offset + 1) ≡ start + offset + 1 = omega arith in e)) in
+    sym (take-append-drop offset held) ∙ ap (λ xs. take offset held ++ xs) (drop_more held offset 0 inside ∙ ap (λ x. x ∷ drop (offset + 1) held) at.feed)
+    ∙ ap (λ xs. xs ++ (10 ∷ drop (offset + 1) held)) prefix ∙ ap (λ xs. slice_range bytes start (start + offset) ++ (10 ∷ xs)) back
 
 -- the line before a line feed is the front of what was searched
-pub slice_before_feed : (bytes : List ℕ) (start end place : ℕ) → FeedAt (slice_range bytes start end) place → take place (slice_range bytes start end) ≡ slice_range bytes start (start + place)
-slice_before_feed bytes start end place at =
+pub slice_before_feed : (bytes : List ℕ) (start end offset : ℕ) → FeedAt (slice_range bytes start end) offset → take offset (slice_range bytes start end) ≡ slice_range bytes start (start + offset)
+slice_before_feed bytes start end offset at =
     let held : List ℕ = slice_range bytes start end in
-    let inside : place < length held = at.inside in
-    let longer : place < end - start = omega (arith, length-take (end - start) (drop start bytes)) in
-    take-take place (end - start) (drop start bytes) (omega arith) ∙ ap (λ n. take n (drop start bytes)) (let e : place ≡ start + place - start = omega arith in e)
+    let inside : offset < length held = at.inside in
+    let longer : offset < end - start = omega (arith, length-take (end - start) (drop start bytes)) in
+    take-take offset (end - start) (drop start bytes) (omega arith) ∙ ap (λ n. take n (drop start bytes)) (let e : offset ≡ start + offset - start = omega arith in e)

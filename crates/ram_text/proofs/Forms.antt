@@ -11,7 +11,7 @@ use Rattle.model_medium.specs.declared.Fate.{Fate}
 use Rattle.model_medium.specs.declared.Fate.TheVariants.{Old, New, Torn}
 use Rattle.ram_text.specs.ScriptWords.{words_of, without_return, IsNumber}
 use Rattle.ram_text.specs.Script.{Reads, IsForm, IsCommandBlock, IsFilled, IsCountedUp, IsSpelled, fate_word, filled, counted_up}
-use Rattle.ram_text.specs.ScriptReading.{◌>>=◌, number_of, hex_byte_of, command_block_of, only_word, first_number, only_number, fate_of, kind_of, form_of, press_of, power_of, fail_of, wear_of, cut_of, tick_of, scrub_of, payload_by, payload_of, command_of, alone, line_by, line_of, reading_of, Puts}
+use Rattle.ram_text.specs.ScriptReading.{◌>>=◌, number_of, hex_byte_of, command_block_of, only_word, first_number, only_number, fate_of, payload_kind, form_of, press_of, power_of, fail_of, wear_of, cut_of, tick_of, scrub_of, payload_by, payload_of, command_of, alone, line_by, line_of, reading_of, Puts}
 use Rattle.ram_text.specs.declared.script.Unread.{Unread}
 use Rattle.ram_text.specs.declared.script.Line.{Line}
 use Rattle.ram_text.specs.declared.script.Line.TheVariants.{Empty, Press, Power, Fail, Wear, Cut, Tick, Scrub, Command}
@@ -68,7 +68,7 @@ form_named word f h =
       ]
     ]
 
-kind_named : (word : List ℕ) (k : Kind) → kind_of word ≡ Some k → word ≡ kind_word k
+kind_named : (word : List ℕ) (k : Kind) → payload_kind word ≡ Some k → word ≡ kind_word k
 kind_named word k h =
     elim (chosen (bytes_eq word (codes "fill")) kinds.Fill _ k h) [
       | inl t ↦ named kind_word word (codes "fill") kinds.Fill k t.0 refl t.1
@@ -206,7 +206,7 @@ unfolding payload_of
 command_by word cdb [] payload block h = let same : [] ≡ payload = cc in (refl, block, sym same)
 command_by word cdb (kind ∷ words) payload block h =
     let digits = bind_some (only_word words) _ payload h in
-    let k = bind_some (kind_of kind) _ payload digits.2 in
+    let k = bind_some (payload_kind kind) _ payload digits.2 in
     subst (λ (ws : List (List ℕ)). IsForm (codes "cdb" ∷ word ∷ kind ∷ ws) (Command cdb) payload) (sym (only_found words digits.0 digits.1))
     (refl, block, payload_found cdb kind digits.0 k.0 payload (kind_named kind k.0 k.1) k.2)
 
@@ -274,13 +274,13 @@ cut_given a b n fate x some is =
 payload_given : (cdb word digits payload : List ℕ) → IsFilled cdb word digits payload ⊎ IsCountedUp cdb word digits payload ⊎ IsSpelled word digits payload → payload_of cdb (word ∷ digits ∷ []) ≡ Some payload
 unfolding payload_of
 payload_given cdb word digits payload (inl is) =
-    ap (λ w. kind_of w >>= payload_by cdb digits) is.named
+    ap (λ w. payload_kind w >>= payload_by cdb digits) is.named
     ∙ ap (λ o. o >>= λ byte. Some (filled byte (out_length_of cdb))) (byte_given digits is.byte is.digits_are) ∙ ap Some (sym is.payload_is)
 payload_given cdb word digits payload (inr (inl is)) =
-    ap (λ w. kind_of w >>= payload_by cdb digits) is.named
+    ap (λ w. payload_kind w >>= payload_by cdb digits) is.named
     ∙ ap (λ o. o >>= λ byte. Some (counted_up byte (out_length_of cdb))) (byte_given digits is.byte is.digits_are) ∙ ap Some (sym is.payload_is)
 payload_given cdb word digits payload (inr (inr is)) =
-    ap (λ w. kind_of w >>= payload_by cdb digits) is.named ∙ hex_given digits payload is.digits_are
+    ap (λ w. payload_kind w >>= payload_by cdb digits) is.named ∙ hex_given digits payload is.digits_are
 
 -- behind the word of a form
 behind : (word text : List ℕ) (words : List (List ℕ)) → word ≡ text → line_of (word ∷ words) ≡ line_of (text ∷ words)

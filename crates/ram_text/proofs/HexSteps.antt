@@ -112,7 +112,7 @@ pub counted_up_more : (byte due sector : ℕ) → counted_up byte (min due (2048
 counted_up_more byte due sector =
     let a : ℕ = min due (2048 * sector) in
     let n : ℕ = min due (2048 * (sector + 1)) - min due (2048 * sector) in
-    constant_more (λ place. (byte + place / 2048) % 256) ((byte + sector) % 256) (min due (2048 * sector)) (min due (2048 * (sector + 1)) - min due (2048 * sector)) (λ k low high.
+    constant_more (λ offset. (byte + offset / 2048) % 256) ((byte + sector) % 256) (min due (2048 * sector)) (min due (2048 * (sector + 1)) - min due (2048 * sector)) (λ k low high.
     let here : k / 2048 ≡ sector = omega arith in
     ap (λ q. (byte + q) % 256) here)
     ∙ ap (counted_up byte) (let e : min due (2048 * sector) + (min due (2048 * (sector + 1)) - min due (2048 * sector)) ≡ min due (2048 * (sector + 1)) = omega arith in e)

@@ -73,7 +73,7 @@ word_alone line some nowhere =
     ∙ ap (λ xs. take (length line) line ∷ xs) (sym (ap words_of (drop_all (length line) line (omega arith)) ∙ words_of-nil))
 
 -- behind a space are the same words
-pub words_behind : (line : List ℕ) (place : ℕ) → place < length line → get_or line place 0 ≡ 32 → words_of (drop place line) ≡ words_of line → words_of (drop (place + 1) line) ≡ words_of line
-words_behind line place inside here same =
-    sym (words_of-space (drop (place + 1) line))
-    ∙ ap words_of (sym (drop_more line place 0 inside ∙ ap (λ x. x ∷ drop (place + 1) line) here)) ∙ same
+pub words_behind : (line : List ℕ) (offset : ℕ) → offset < length line → get_or line offset 0 ≡ 32 → words_of (drop offset line) ≡ words_of line → words_of (drop (offset + 1) line) ≡ words_of line
+words_behind line offset inside here same =
+    sym (words_of-space (drop (offset + 1) line))
+    ∙ ap words_of (sym (drop_more line offset 0 inside ∙ ap (λ x. x ∷ drop (offset + 1) line) here)) ∙ same

@@ -16,16 +16,16 @@ line_feed = 10
 abbrev pub HasNoFeed : List ℕ → Type 0
 HasNoFeed bytes = All (λ byte. byte ≢ line_feed) bytes
 
--- the first line feed of the bytes is at this place (this project's own)
-pub record FeedAt (bytes : List ℕ) (place : ℕ) : Type 0 where
-  pub inside : place < length bytes
-  pub feed : slice_index bytes place ≡ line_feed
-  pub first : HasNoFeed (take place bytes)
+-- the first line feed of the bytes is at this offset (this project's own)
+pub record FeedAt (bytes : List ℕ) (offset : ℕ) : Type 0 where
+  pub inside : offset < length bytes
+  pub feed : slice_index bytes offset ≡ line_feed
+  pub first : HasNoFeed (take offset bytes)
 
 -- where the first line feed of the bytes is, if there is one (this project's own)
 abbrev pub IsFirstFeed : List ℕ → Option ℕ → Type 0
 IsFirstFeed bytes None = HasNoFeed bytes
-IsFirstFeed bytes (Some place) = FeedAt bytes place
+IsFirstFeed bytes (Some offset) = FeedAt bytes offset
 
 -- What a reader of lines holds: the line that it found last, without its line feed; the bytes that came from the
 -- source and are not taken yet; and how many bytes of the script its lines so far took. (This project's own.)
@@ -36,10 +36,10 @@ pub record Reading : Type 0 where
 
 -- The buffered bytes begin with a line and its line feed, within both limits. (This project's own.)
 pub record HoldsLine (reading : Reading) : Type 0 where
-  pub place : ℕ
-  pub feed : FeedAt reading.buffered place
-  pub short : place ≤ LINE_LIMIT
-  pub within : reading.taken + place < SCRIPT_LIMIT
+  pub offset : ℕ
+  pub feed : FeedAt reading.buffered offset
+  pub short : offset ≤ LINE_LIMIT
+  pub within : reading.taken + offset < SCRIPT_LIMIT
 
 -- the line and its line feed went, and what is left now came after them (this project's own)
 pub record EndsByFeed (left left' : Option (List ℕ)) (taken taken' : ℕ) (line : List ℕ) : Type 0 where

@@ -21,7 +21,7 @@ filled byte n = replicate n byte
 -- n bytes that count up by sectors of 2,048 bytes, from this one on, and after FFh from 00h on (this project's
 -- own)
 abbrev pub counted_up : ℕ → ℕ → List ℕ
-counted_up byte n = map (λ place. (byte + place / 2048) % 256) (range_with_len 0 n)
+counted_up byte n = map (λ offset. (byte + offset / 2048) % 256) (range_with_len 0 n)
 
 -- `fill XX`: the data that the command takes are this byte (this project's own)
 pub record IsFilled (cdb word digits payload : List ℕ) : Type 0 where

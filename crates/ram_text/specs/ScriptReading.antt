@@ -71,8 +71,8 @@ fate_of word =
     else None
 
 -- the kind of data that a word names (this project's own)
-abbrev pub kind_of : List ℕ → Option Kind
-kind_of word =
+abbrev pub payload_kind : List ℕ → Option Kind
+payload_kind word =
     if bytes_eq word (codes "fill") then Some kinds.Fill
     else if bytes_eq word (codes "count") then Some kinds.Count
     else if bytes_eq word (codes "hex") then Some kinds.Hex
@@ -147,7 +147,7 @@ unfoldable pub payload_of : List ℕ → List (List ℕ) → Option (List ℕ)
 payload_of cdb [] = Some []
 payload_of cdb (word ∷ words) = do
   digits ← only_word words
-  kind ← kind_of word
+  kind ← payload_kind word
   payload_by cdb digits kind
 
 -- the line that the words behind `cdb` make, with its data (this project's own)

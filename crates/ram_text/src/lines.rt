@@ -120,7 +120,7 @@ impl LineReader {
         ensures { IsTrue result ↔ HoldsLine self.now }
     {
         match self.feed {
-            Some(place) => place <= LINE_LIMIT && place < SCRIPT_LIMIT - self.taken,
+            Some(offset) => offset <= LINE_LIMIT && offset < SCRIPT_LIMIT - self.taken,
             None => false,
         }
     }
@@ -183,15 +183,15 @@ impl LineReader {
         self.line_start = 0;
         self.line_end = 0;
         match self.feed {
-            Some(place) => {
-                if place >= within.min(LINE_LIMIT + 1) {
+            Some(offset) => {
+                if offset >= within.min(LINE_LIMIT + 1) {
                     return Some(passed_first(self.taken));
                 }
                 self.line_start = self.start;
-                self.line_end = self.start + place;
+                self.line_end = self.start + offset;
                 self.start = self.line_end + 1;
                 self.feed = first_feed(&self.bytes[self.start..self.end], 0);
-                self.taken += place + 1;
+                self.taken += offset + 1;
                 Some(NextLine::Line)
             }
             None => {
@@ -278,13 +278,13 @@ fn first_feed(bytes: &[u8], searched: usize) -> Option<usize>
     ensures { IsFirstFeed bytes.now result }
 {
     match memchr(b'\n', &bytes[searched..]) {
-        Some(place) => Some(searched + place),
+        Some(offset) => Some(searched + offset),
         None => None,
     }
 }
 
 /// Moves what lies from `start` to `end` to the start where less than a piece fits behind it, and gives its
-/// first place.
+/// first offset.
 fn make_room(bytes: &mut Vec<u8>, start: usize, end: usize) -> usize
     requires whole { vec_len bytes.old ≡ ROOM }
     requires ordered { start ≤ end }

@@ -3,7 +3,7 @@ ghost use Rattle.std.specs.Prelude.{◌≡◌, ◌≤◌, ◌-◌, ◌/◌, None
 ghost use Rattle.hex.specs.Hex.{hex_digit_value};
 ghost use Rattle.ram_text.specs.ScriptWords.{words_of};
 ghost use Rattle.ram_text.specs.Script.{counted_up};
-ghost use Rattle.ram_text.specs.ScriptReading.{hex_of, hex_byte_of, command_block_of, kind_of, payload_of, payload_by, PutsDown};
+ghost use Rattle.ram_text.specs.ScriptReading.{hex_of, hex_byte_of, command_block_of, payload_kind, payload_of, payload_by, PutsDown};
 ghost use Rattle.ram_text.specs.declared.payload.TheConstants.{PAYLOAD_ROOM};
 ghost use Rattle.ram_text.specs.declared.lines.TheConstants.{LINE_LIMIT};
 
@@ -23,7 +23,7 @@ enum Kind {
 }
 
 fn kind_named(word: &[u8]) -> Option<Kind>
-    ensures { result ≡ kind_of word.now }
+    ensures { result ≡ payload_kind word.now }
 {
     if word == b"fill".as_slice() {
         return Some(Kind::Fill);

@@ -116,9 +116,9 @@ fn without_spaces(line: &[u8]) -> &[u8]
     ensures shorter { length result.now ≤ length line.now }
     ensures first { 0 < length result.now → ¬ (slice_index result.now 0 ≡ space) }
 {
-    for (place, byte) in line.iter().enumerate() {
+    for (offset, byte) in line.iter().enumerate() {
         if *byte != b' ' {
-            return &line[place..];
+            return &line[offset..];
         }
     }
     &[]

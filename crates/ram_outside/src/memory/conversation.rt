@@ -29,13 +29,13 @@ pub struct MemConversation {
 }
 
 impl MemConversation {
-    ghost use Rattle.ram_outside.specs.MemConversation.{asked_in, asks_kept, NotesNow};
+    ghost use Rattle.ram_outside.specs.MemConversation.{asks_known, asks_kept, NotesNow};
 
     /// The conversation of this source and this sink, in which nothing was asked for yet.
     pub fn new(alloc: Global, script: MemSource, report: MemSink) -> MemConversation
         ensures script { result.script ≡ script }
         ensures report { result.report ≡ report }
-        ensures asked { asked_in result ≡ Some [] }
+        ensures asked { asks_known result ≡ Some [] }
     {
         MemConversation {
             alloc,
@@ -92,13 +92,13 @@ impl Conversation for MemConversation {
     type Sink = MemSink;
 
     ghost use Rattle.std.proofs.Common.{refl};
-    ghost use Rattle.ram_outside.specs.MemConversation.{asked_in, with_mem_sink};
+    ghost use Rattle.ram_outside.specs.MemConversation.{asks_known, with_mem_sink};
 
     ghost left = { λ talk. Some talk.script.left };
 
     ghost faults = { λ talk. talk.script.calls.faults };
 
-    ghost asked = { asked_in };
+    ghost asked = { asks_known };
 
     ghost report = { λ talk. talk.report };
 

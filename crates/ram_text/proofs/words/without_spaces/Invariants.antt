@@ -3,5 +3,5 @@ use Rattle.std.proofs.Common.{◌≡◌, drop}
 use Rattle.ram_text.specs.ScriptWords.{words_of}
 use Rattle.ram_text.proofs.words.without_spaces.Given as goal
 
-abbrev pub invariant-loop-place : goal.invariant-loop-place
-invariant-loop-place l = words_of (drop l.place l.line) ≡ words_of l.line
+abbrev pub invariant-loop-offset : goal.invariant-loop-offset
+invariant-loop-offset l = words_of (drop l.offset l.line) ≡ words_of l.line

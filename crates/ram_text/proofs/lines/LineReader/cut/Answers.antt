@@ -6,15 +6,15 @@ use Rattle.ram_text.proofs.Feeds.{FeedAt-one}
 use Rattle.ram_text.proofs.Cuts.{passed_late, passed_whole, took}
 use Rattle.ram_text.proofs.lines.LineReader.cut.Goals as goal
 
-pub returns-then-place-min-clause-rule : goal.returns-then-place-min-clause-rule
-returns-then-place-min-clause-rule c =
+pub returns-then-offset-min-clause-rule : goal.returns-then-offset-min-clause-rule
+returns-then-offset-min-clause-rule c =
     let before = reading_by c.self.inside in
     subst (λ (r : Reading). CutRule r (without_line before) (Some c.passed_first.result)) c.self.view_is
-    (passed_late before c.in-Some.place c.self.invariant.within (rw c.in-Some.is at c.self.invariant.searched) (omega (arith, c.min.ensures)) _ c.passed_first.ensures)
+    (passed_late before c.in-Some.offset c.self.invariant.within (rw c.in-Some.is at c.self.invariant.searched) (omega (arith, c.min.ensures)) _ c.passed_first.ensures)
 
-pub returns-then-place-min-clause-line : goal.returns-then-place-min-clause-line
-returns-then-place-min-clause-line c = λ holds.
-    let here : FeedAt (reading_by c.self.inside).buffered c.in-Some.place = rw c.in-Some.is at c.self.invariant.searched in
+pub returns-then-offset-min-clause-line : goal.returns-then-offset-min-clause-line
+returns-then-offset-min-clause-line c = λ holds.
+    let here : FeedAt (reading_by c.self.inside).buffered c.in-Some.offset = rw c.in-Some.is at c.self.invariant.searched in
     let there = rw (← c.self.view_is) at holds.feed in
     let same = FeedAt-one _ _ _ here there in
     let short = holds.short in
@@ -29,6 +29,6 @@ returns-then-held-min-clause-rule c =
     (passed_whole before c.self.invariant.within (rw c.in-None.is at c.self.invariant.searched)
     (omega (arith, c.min-in-None.ensures, length-take (c.self.inside.end - c.self.inside.start) (drop c.self.inside.start bytes.items), length-drop c.self.inside.start bytes.items, bytes.ok.0)) _ c.passed_first-then-held-min.ensures)
 
-pub returns-else-place-min-clause-rule : goal.returns-else-place-min-clause-rule
-returns-else-place-min-clause-rule c =
-    rw (← c.self.view_is) (took c.self.inside.bytes.items c.self.inside.start c.self.inside.end c.in-Some.place c.self.inside.taken _ c.self.invariant.within (rw c.in-Some.is at c.self.invariant.searched) (omega (arith, c.min.ensures)))
+pub returns-else-offset-min-clause-rule : goal.returns-else-offset-min-clause-rule
+returns-else-offset-min-clause-rule c =
+    rw (← c.self.view_is) (took c.self.inside.bytes.items c.self.inside.start c.self.inside.end c.in-Some.offset c.self.inside.taken _ c.self.invariant.within (rw c.in-Some.is at c.self.invariant.searched) (omega (arith, c.min.ensures)))
