@@ -142,7 +142,7 @@ pub fn answer_lines<D: Drive, T: Conversation>(
 ///
 /// # Clauses
 ///
-/// - `leaves`, `counts`: The table above; and by the status which count rose (`StatusCounts`).
+/// - `leaves`, `counts`: What stands with each status (`StandsWith`); and by the status which count rose (`StatusCounts`).
 /// - `asks`: Whenever more was asked for, all answers to the whole lines that had come were written (`IsAnsweredBy`).
 ///
 /// # Answers

@@ -104,7 +104,7 @@ fn fill_line(lba: u64, byte: u8, line: &mut [u8; 40]) -> usize
     start
 }
 
-/// Whether all bytes of the sector are equal. No byte ends the fold, n of them are looked at together.
+/// Whether all bytes of the sector are equal. The fold has no early exit, so the compiler can look at many bytes at once.
 fn is_fill(sector: &[u8]) -> bool
     requires { 0 < length sector.now }
     ensures { result ≡ is_one_byte sector.now }
