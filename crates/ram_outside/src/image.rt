@@ -43,9 +43,7 @@ pub trait Image {
     ///
     /// # Clauses
     ///
-    /// - `TakeRule`, `PutRule`, `LenRule`, `ReadAtRule`, `WriteAtRule`, `SetLenRule`, `OpenRule`: What each answer says of the
-    ///   bytes, as the comment at the call and `docs/ANSWERS.md` tell. A `read_at` or a `len` changes no byte of the image,
-    ///   whatever the answer.
+    /// - `rule` (`LenRule`): what each answer says of the bytes, as told below.
     /// - `past`: what the call adds to the past of the image: one moment where it may have changed bytes, or failed.
     /// - `stops`: An image that has failed fails again.
     ///
@@ -64,9 +62,7 @@ pub trait Image {
     ///
     /// # Clauses
     ///
-    /// - `TakeRule`, `PutRule`, `LenRule`, `ReadAtRule`, `WriteAtRule`, `SetLenRule`, `OpenRule`: What each answer says of the
-    ///   bytes, as the comment at the call and `docs/ANSWERS.md` tell. A `read_at` or a `len` changes no byte of the image,
-    ///   whatever the answer.
+    /// - `rule` (`ReadAtRule`): what each answer says of the bytes, as told below.
     /// - `past`: what the call adds to the past of the image: one moment where it may have changed bytes, or failed.
     /// - `stops`: An image that has failed fails again.
     ///
@@ -87,9 +83,7 @@ pub trait Image {
     ///
     /// # Clauses
     ///
-    /// - `TakeRule`, `PutRule`, `LenRule`, `ReadAtRule`, `WriteAtRule`, `SetLenRule`, `OpenRule`: What each answer says of the
-    ///   bytes, as the comment at the call and `docs/ANSWERS.md` tell. A `read_at` or a `len` changes no byte of the image,
-    ///   whatever the answer.
+    /// - `rule` (`WriteAtRule`): what each answer says of the bytes, as told below.
     /// - `past`: what the call adds to the past of the image: one moment where it may have changed bytes, or failed.
     /// - `stops`: An image that has failed fails again.
     ///
@@ -111,9 +105,7 @@ pub trait Image {
     ///
     /// # Clauses
     ///
-    /// - `TakeRule`, `PutRule`, `LenRule`, `ReadAtRule`, `WriteAtRule`, `SetLenRule`, `OpenRule`: What each answer says of the
-    ///   bytes, as the comment at the call and `docs/ANSWERS.md` tell. A `read_at` or a `len` changes no byte of the image,
-    ///   whatever the answer.
+    /// - `rule` (`SetLenRule`): what each answer says of the bytes, as told below.
     /// - `past`: what the call adds to the past of the image: one moment where it may have changed bytes, or failed.
     /// - `stops`: An image that has failed fails again.
     ///

@@ -47,9 +47,7 @@ pub trait Opener {
     ///
     /// # Clauses
     ///
-    /// - `TakeRule`, `PutRule`, `LenRule`, `ReadAtRule`, `WriteAtRule`, `SetLenRule`, `OpenRule`: What each answer says of the
-    ///   bytes, as the comment at the call and `docs/ANSWERS.md` tell. A `read_at` or a `len` changes no byte of the image,
-    ///   whatever the answer.
+    /// - `OpenRule`: what each answer says of the image, as told below.
     ///
     /// # Answers
     ///
@@ -66,9 +64,7 @@ pub trait Opener {
     ///
     /// # Clauses
     ///
-    /// - `TakeRule`, `PutRule`, `LenRule`, `ReadAtRule`, `WriteAtRule`, `SetLenRule`, `OpenRule`: What each answer says of the
-    ///   bytes, as the comment at the call and `docs/ANSWERS.md` tell. A `read_at` or a `len` changes no byte of the image,
-    ///   whatever the answer.
+    /// - `OpenRule`: what each answer says of the image, as told below.
     ///
     /// # Answers
     ///

@@ -27,9 +27,7 @@ pub trait Sink {
     ///
     /// # Clauses
     ///
-    /// - `TakeRule`, `PutRule`, `LenRule`, `ReadAtRule`, `WriteAtRule`, `SetLenRule`, `OpenRule`: What each answer says of the
-    ///   bytes, as the comment at the call and `docs/ANSWERS.md` tell. A `read_at` or a `len` changes no byte of the image,
-    ///   whatever the answer.
+    /// - `PutRule`: what each answer says of the bytes, as told below.
     ///
     /// # Answers
     ///
