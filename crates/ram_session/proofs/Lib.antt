@@ -1,0 +1,4 @@
+pub mod Chains
+pub mod Decoded
+pub mod Kept
+mod OneReading

@@ -1,0 +1,5 @@
+pub mod Doing
+pub mod Talk
+pub mod Opening
+pub mod Kept
+pub mod Session

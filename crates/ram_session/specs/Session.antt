@@ -1,0 +1,148 @@
+-- A whole session of a client, and what stands with each status when it ends. For the main clause of the word that serves a client.
+-- (This project's own, as all here.)
+use Rattle.std.specs.Prelude.{◌≡◌, ℕ, ◌<◌, ◌⊎◌, Some, Ok, Err, List, [], ◌∷◌, ◌++◌, length, take}
+use Rattle.std.specs.Io.KnownBytes.{prepend_known}
+use Rattle.model_nbd.specs.Messages.{greeting, Request, IsRequest, request_bytes}
+use Rattle.model_nbd.specs.Handshake.{Serving}
+use Rattle.model_nbd.specs.Operations.{request_asks}
+use Rattle.model_nbd.specs.Commands.{Command, commands_of}
+use Rattle.ram_text.specs.declared.script.Line.{Line}
+use Rattle.ram_text.specs.declared.script.Line.TheVariants as lines
+use Rattle.ram_machine.specs.declared.reply.Reply.{Reply}
+use Rattle.ram_machine.specs.declared.status.Status.{Status}
+use Rattle.ram_machine.specs.declared.status.Status.TheVariants as statuses
+use Rattle.ram_machine.specs.declared.stopped.Stopped.TheVariants as stopped
+use Rattle.ram_machine.specs.Answered.{AnsweredStep}
+use Rattle.ram_machine.specs.Inserted.{LeavesImage}
+use Rattle.ram_machine.specs.States.{State}
+use Rattle.ram_machine.specs.LineSteps.{Step}
+use Rattle.ram_script.specs.Progress.{Beginning}
+use Rattle.ram_script.specs.Endings.{Aftermath}
+use Rattle.ram_script.specs.RunCounts.{Counts, SameCounts, OnlySourceRose, OnlySinkRose, OnlyImageRose}
+use Rattle.ram_session.specs.Doing.{Did, Doing, AreGood, commands_in}
+use Rattle.ram_session.specs.Talk.{Phase, Transmission, Left, Violation, Turned, Talk, BeginsNoMessage, sent_in, told_in}
+use Rattle.ram_session.specs.Opening.{Given, IsOpened, IsOpenedInPart, RefusesFault, export_after}
+
+-- A session so far: it was opened; the messages that came, the state and the phase that they lead to, and what follows them of what the
+-- client sends.
+pub record SoFar (first : Beginning) (faults : List Line) : Type 0 where
+  pub opened : IsOpened first faults
+  pub turns : List Turned
+  pub now : State
+  pub phase : Phase
+  pub talk : Talk (export_after opened.steps) opened.ready turns now phase
+  pub rest : List ℕ
+  pub sent_is : first.script ≡ sent_in turns ++ rest
+
+-- the answer to the newest message, or the greeting
+abbrev pub newest : List Turned → List ℕ
+newest [] = greeting
+newest (turned ∷ before) = turned.bytes
+
+-- what was told before it
+abbrev pub earlier : List Turned → List ℕ
+earlier [] = []
+earlier (turned ∷ before) = told_in before
+
+-- How a session ends, of which so much came.
+module _ {first : Beginning} {faults : List Line} (far : SoFar first faults) (after : Aftermath) where
+  -- All that was due was told, and the image is as the messages leave it. Of what follows them these bytes came, and no others.
+  pub record IsLeftAt (came : List ℕ) : Type 0 where
+    pub written_is : after.written ≡ Some (first.report ++ told_in far.turns)
+    pub left_is : prepend_known came after.left ≡ Some far.rest
+    pub image_is : LeavesImage far.now after.image
+
+  -- The client left, or what it sends ended behind a message.
+  pub record HasEnded : Type 0 where
+    pub ended : (far.phase ≡ Left) ⊎ (far.rest ≡ [])
+    pub left : IsLeftAt []
+
+  -- The protocol has no answer to the last message; or what follows it is no message, or only a part of one.
+  abbrev pub BreaksProtocol : Type 0
+  BreaksProtocol = ((far.phase ≡ Violation) × IsLeftAt [])
+      ⊎ ((came : List ℕ) × (0 < length came) × BeginsNoMessage far.phase far.rest × IsLeftAt came)
+
+  -- The source failed, and what it gave of what follows is no whole message.
+  pub record IsCutBySource : Type 0 where
+    pub came : List ℕ
+    pub no_message : BeginsNoMessage far.phase came
+    pub left : IsLeftAt came
+
+  -- The sink failed in the newest answer, or in the greeting: all before it was told, and a part of it.
+  pub record IsCutBySink : Type 0 where
+    pub n : ℕ
+    pub part : n < length (newest far.turns)
+    pub written_is : after.written ≡ Some (first.report ++ (earlier far.turns ++ take n (newest far.turns)))
+    pub left_is : after.left ≡ Some far.rest
+    pub image_is : LeavesImage far.now after.image
+
+  -- The next message is a request. Its first commands were good, and in the next one the image failed; the image is as it leaves it.
+  -- Nothing is told of the request.
+  pub record IsCutByImage : Type 0 where
+    pub size : ℕ
+    pub serves : export_after far.opened.steps ≡ Serving size
+    pub asks : far.phase ≡ Transmission
+    pub request : Request
+    pub whole : IsRequest request
+    pub rest : List ℕ
+    pub comes : far.rest ≡ request_bytes request ++ rest
+    pub dids : List Did
+    pub good : AreGood dids
+    pub mid : State
+    pub done : Doing far.now dids mid
+    pub command : Command
+    pub undone : List Command
+    pub commands : commands_of (request_asks size request.header) request.payload ≡ commands_in dids ++ (command ∷ undone)
+    pub data_in : List ℕ
+    pub state : State
+    pub step : Step mid (lines.Command command.cdb) command.payload (Err stopped.ImageFault) data_in state
+    pub written_is : after.written ≡ Some (first.report ++ told_in far.turns)
+    pub left_is : after.left ≡ Some rest
+    pub image_is : LeavesImage state after.image
+
+-- No client was greeted: nothing came and nothing was told.
+pub record IsNotGreeted (first : Beginning) (after : Aftermath) : Type 0 where
+  pub written_is : after.written ≡ Some first.report
+  pub left_is : after.left ≡ Some first.script
+
+-- A fault that the words ask for was refused, and the image is as the lines leave it.
+pub record EndsAtFault (first : Beginning) (faults : List Line) (after : Aftermath) : Type 0 where
+  pub part : IsOpenedInPart first faults
+  pub reply : Reply
+  pub data_in : List ℕ
+  pub state : State
+  pub step : Step part.now part.next.line part.next.payload (Ok reply) data_in state
+  pub refused : RefusesFault reply
+  pub ungreeted : IsNotGreeted first after
+  pub image_is : LeavesImage state after.image
+
+-- The image failed before a client was greeted: in the opening of it, which leaves its bytes; or in a line.
+pub record EndsUnopened (first : Beginning) (after : Aftermath) : Type 0 where
+  pub ungreeted : IsNotGreeted first after
+  pub image_is : after.image ≡ Some first.image
+
+pub record EndsInOpening (first : Beginning) (faults : List Line) (after : Aftermath) : Type 0 where
+  pub part : IsOpenedInPart first faults
+  pub data_in : List ℕ
+  pub state : State
+  pub step : Step part.now part.next.line part.next.payload (Err stopped.ImageFault) data_in state
+  pub ungreeted : IsNotGreeted first after
+  pub image_is : LeavesImage state after.image
+
+-- What stands with each status of a session, where the bytes of source, sink and image are known.
+abbrev pub SessionStands : Beginning → (faults : List Line) → Aftermath → Status → Type 0
+SessionStands first faults after statuses.Done = (far : SoFar first faults) × HasEnded far after
+SessionStands first faults after statuses.Script =
+    EndsAtFault first faults after ⊎ ((far : SoFar first faults) × BreaksProtocol far after)
+SessionStands first faults after statuses.ImageFault =
+    EndsUnopened first after ⊎ EndsInOpening first faults after ⊎ ((far : SoFar first faults) × IsCutByImage far after)
+SessionStands first faults after statuses.SourceFault = (far : SoFar first faults) × IsCutBySource far after
+SessionStands first faults after statuses.SinkFault = (far : SoFar first faults) × IsCutBySink far after
+SessionStands first faults after _ = ⊥
+
+-- The count that a status tells of rose, and no other; with every other status nothing failed at all.
+abbrev pub SessionCounts : (before after : Counts) → Status → Type 0
+SessionCounts before after statuses.ImageFault = OnlyImageRose before after
+SessionCounts before after statuses.SourceFault = OnlySourceRose before after
+SessionCounts before after statuses.SinkFault = OnlySinkRose before after
+SessionCounts before after _ = SameCounts before after
