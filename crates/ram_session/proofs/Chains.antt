@@ -1,5 +1,5 @@
 -- The commands of messages, one after another, are a run.
-use Rattle.std.proofs.Common.{◌≡◌, List, [], ◌∷◌, ◌++◌, map, sym, subst}
+use Rattle.std.proofs.Common.{List, [], ◌∷◌, ◌++◌, map, sym, subst}
 use Rattle.model_nbd.specs.Handshake.{Export}
 use Rattle.ram_text.specs.declared.script.Line.{Line}
 use Rattle.ram_machine.specs.Answered.{AnsweredStep}

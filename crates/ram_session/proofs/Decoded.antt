@@ -1,5 +1,5 @@
 -- The command blocks of requests ask the drive for what the requests ask.
-use Rattle.std.proofs.Common.{rules, ◌≡◌, ℕ, ◌*◌, ◌<◌, ◌≤◌, ◌^◌, Bool, true, false, Ok, List, [], length, arith}
+use Rattle.std.proofs.Common.{rules, ◌≡◌, ℕ, ◌*◌, ◌<◌, ◌≤◌, ◌^◌, Bool, Ok, List, [], length}
 use Rattle.model_cdb.specs.Decoding.{decoded}
 use Rattle.model_cdb.specs.declared.commands.Command.TheVariants as commands
 use Rattle.model_nbd.specs.Commands.{Sectors, read_cdb, write_cdb}

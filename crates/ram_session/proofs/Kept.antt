@@ -1,14 +1,14 @@
 -- What was acknowledged of a sector stays so over messages that do not write it.
-use Rattle.std.proofs.Common.{◌≡◌, ℕ, zero, suc, ◌+◌, ◌-◌, ◌*◌, ◌/◌, ◌<◌, ◌≤◌, ◌^◌, ◌⊎◌, inl, inr, Bool, Ok, List, [], ◌∷◌, ◌++◌, length, map, take, drop, refl, sym, ap, ◌∙◌, subst, arith, length-append, length-take-le, length-drop}
+use Rattle.std.proofs.Common.{◌≡◌, ℕ, zero, suc, ◌+◌, ◌-◌, ◌*◌, ◌/◌, ◌<◌, ◌≤◌, ◌^◌, ◌⊎◌, inl, inr, Bool, Ok, List, [], ◌∷◌, ◌++◌, length, map, take, drop, refl, sym, ◌∙◌, subst, arith, length-take-le, length-drop}
 use Rattle.std.proofs.lemmas.List.{length-replicate}
 use Rattle.model_cdb.specs.Decoding.{decoded}
 use Rattle.model_nbd.specs.declared.NbdOperation.{NbdOperation}
 use Rattle.model_nbd.specs.declared.NbdOperation.TheVariants as operations
 use Rattle.model_nbd.specs.declared.Header.{Header}
-use Rattle.model_nbd.specs.Messages.{IsRequest, data_after}
+use Rattle.model_nbd.specs.Messages.{data_after}
 use Rattle.model_nbd.specs.Handshake.{Serving}
 use Rattle.model_nbd.specs.Operations.{request_asks}
-use Rattle.model_nbd.specs.Commands.{Command, Sectors, bare, parts, parts_before, commands_of, read_cdb, write_cdb, zeroes_for}
+use Rattle.model_nbd.specs.Commands.{Command, Sectors, bare, parts_before, commands_of, read_cdb, write_cdb, zeroes_for}
 use Rattle.model_nbd.proofs.Inverted.{read_lies_on, write_lies_on, zero_lies_on}
 use Rattle.ram_text.specs.declared.script.Line.TheVariants as lines
 use Rattle.ram_machine.specs.declared.reply.Reply.TheVariants as replies
@@ -16,7 +16,7 @@ use Rattle.ram_machine.specs.States.{State}
 use Rattle.ram_machine.specs.Acknowledged.{Acknowledged, LeavesAsDecoded}
 use Rattle.ram_machine.proofs.Acknowledged.{step_keeps, as_so, so_acknowledged}
 use Rattle.ram_session.specs.Doing.{Did, Doing, AreDone, commands_in}
-use Rattle.ram_session.specs.Talk.{Phase, Greeted, Options, Transmission, Left, Violation, Message, Flags, Wants, Asks, Turned, Talk, FollowsBy}
+use Rattle.ram_session.specs.Talk.{Phase, Greeted, Options, Transmission, Message, Flags, Wants, Asks, Turned, Talk, FollowsBy}
 use Rattle.ram_session.specs.Kept.{LeavesAsked, LeavesByMessage, LeaveByMessages}
 use Rattle.ram_session.proofs.Decoded.{write_decoded, read_decoded}
 

@@ -1,4 +1,5 @@
 pub mod Chains
 pub mod Decoded
+pub mod ReadData
 pub mod Kept
 mod OneReading

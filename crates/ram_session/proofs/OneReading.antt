@@ -1,5 +1,5 @@
 -- What a client sends is read in one way.
-use Rattle.std.proofs.Common.{◌≡◌, ℕ, ◌<◌, Bool, true, false, List, [], ◌∷◌, ◌++◌, length, map, refl, sym, ap, ◌∙◌, subst, append_assoc, arith}
+use Rattle.std.proofs.Common.{◌≡◌, ℕ, Bool, true, false, List, [], ◌∷◌, ◌++◌, length, map, refl, sym, ap, ◌∙◌, subst, append_assoc, arith}
 use Rattle.model_nbd.specs.Messages.{OptionRequest, Request, client_flags}
 use Rattle.model_nbd.specs.Handshake.{Export, Serving, Nothing, option_answer}
 use Rattle.model_nbd.specs.Operations.{request_asks}

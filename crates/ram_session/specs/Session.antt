@@ -12,7 +12,6 @@ use Rattle.ram_machine.specs.declared.reply.Reply.{Reply}
 use Rattle.ram_machine.specs.declared.status.Status.{Status}
 use Rattle.ram_machine.specs.declared.status.Status.TheVariants as statuses
 use Rattle.ram_machine.specs.declared.stopped.Stopped.TheVariants as stopped
-use Rattle.ram_machine.specs.Answered.{AnsweredStep}
 use Rattle.ram_machine.specs.Inserted.{LeavesImage}
 use Rattle.ram_machine.specs.States.{State}
 use Rattle.ram_machine.specs.LineSteps.{Step}
@@ -21,7 +20,7 @@ use Rattle.ram_script.specs.Endings.{Aftermath}
 use Rattle.ram_script.specs.RunCounts.{Counts, SameCounts, OnlySourceRose, OnlySinkRose, OnlyImageRose}
 use Rattle.ram_session.specs.Doing.{Did, Doing, AreGood, commands_in}
 use Rattle.ram_session.specs.Talk.{Phase, Transmission, Left, Violation, Turned, Talk, BeginsNoMessage, sent_in, told_in}
-use Rattle.ram_session.specs.Opening.{Given, IsOpened, IsOpenedInPart, RefusesFault, export_after}
+use Rattle.ram_session.specs.Opening.{IsOpened, IsOpenedInPart, RefusesFault, export_after}
 
 -- A session so far: it was opened; the messages that came, the state and the phase that they lead to, and what follows them of what the
 -- client sends.

@@ -1,12 +1,12 @@
 -- The talk of a client and a drive, message by message: what each message does to the drive, what the client is told, and what may
 -- come then. (After the NBD protocol; the words are this project's own.)
-use Rattle.std.specs.Prelude.{◌≡◌, ℕ, ◌+◌, ◌<◌, Bool, List, [], ◌∷◌, ◌++◌, length}
+use Rattle.std.specs.Prelude.{◌≡◌, ℕ, Bool, List, [], ◌∷◌, ◌++◌}
 use Rattle.model_nbd.specs.declared.NbdOperation.{NbdOperation}
 use Rattle.model_nbd.specs.declared.NbdOperation.TheVariants as operations
 use Rattle.model_nbd.specs.declared.NextPhase.{NextPhase}
 use Rattle.model_nbd.specs.declared.NextPhase.TheVariants as phases
 use Rattle.model_nbd.specs.Messages.{greeting, client_flags, OptionRequest, IsOptionRequest, option_bytes, Request, IsRequest, request_bytes}
-use Rattle.model_nbd.specs.Handshake.{Export, Serving, Nothing, option_answer}
+use Rattle.model_nbd.specs.Handshake.{Export, Serving, option_answer}
 use Rattle.model_nbd.specs.Operations.{request_asks}
 use Rattle.model_nbd.specs.Commands.{commands_of}
 use Rattle.ram_machine.specs.States.{State}

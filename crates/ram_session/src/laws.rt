@@ -4,7 +4,11 @@ ghost use Rattle.model_cdb.specs.Decoding.{decoded};
 ghost use Rattle.model_cdb.specs.declared.commands.Command.TheVariants as commands;
 ghost use Rattle.model_nbd.specs.Commands.{Sectors, read_cdb, write_cdb, sync_cdb};
 ghost use Rattle.model_nbd.specs.Handshake.{Export, Serving};
+ghost use Rattle.model_sense.specs.declared.answer.Answer.TheVariants as answers;
 ghost use Rattle.ram_text.specs.declared.script.Line.{Line};
+ghost use Rattle.ram_text.specs.declared.script.Line.TheVariants as lines;
+ghost use Rattle.ram_machine.specs.declared.reply.Reply.TheVariants as replies;
+ghost use Rattle.ram_machine.specs.LineSteps.{Step};
 ghost use Rattle.ram_machine.specs.States.{State};
 ghost use Rattle.ram_machine.specs.Runs.{Run};
 ghost use Rattle.ram_machine.specs.Acknowledged.{Acknowledged};
@@ -40,6 +44,17 @@ pub fn command_blocks_are_decoded()
         → length bytes ≡ 2048 * part.n
         → decoded (write_cdb fua part) bytes ≡ Ok (commands.Write part.lba part.n fua) }
     ensures synchronize { decoded sync_cdb [] ≡ Ok commands.Synchronize }
+{}
+
+/// A read of a part of a request that is answered Good gives as many bytes as its sectors have.
+///
+/// # Clauses
+///
+/// - the data have 2,048 bytes for each sector.
+pub fn a_good_read_gives_its_sectors()
+    ensures { (s t : State) (part : Sectors) (data_in : List ℕ) → part.lba < 2 ^ 32 → part.n ≤ 1024
+        → Step s (lines.Command (read_cdb part)) [] (Ok (replies.Command (read_cdb part) answers.Good)) data_in t
+        → length data_in ≡ 2048 * part.n }
 {}
 
 /// What was acknowledged of a sector stays so over all messages of a client that do not write it, whatever fails and wherever the power is
