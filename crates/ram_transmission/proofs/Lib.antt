@@ -1,0 +1,3 @@
+mod Commands
+mod Chained
+mod Replies
