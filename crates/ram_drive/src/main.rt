@@ -5,7 +5,7 @@
 
 use ram_bytes::Budget;
 use ram_machine::status::Status;
-use ram_outside::{BothEnds, FileOpener, StdSink, StdSource};
+use ram_outside::{BothEnds, FileOpener, LockFile, StdSink, StdSource};
 use ram_run::rooms::{MOST_BYTES, Rooms};
 use ram_run::run::run;
 use std::fs::File;
@@ -44,7 +44,7 @@ fn hold_descriptors<R: Files>(rt: &R) -> io::Result<HeldDescriptors<R::File>> {
 /// Runs the program's words over the standard streams and files.
 fn answer<R: Input + Print + Files + Env + AllocGlobal>(rt: &R) -> Status
 where
-    R::File: FileExt,
+    R::File: FileExt + LockFile,
 {
     match run_words(rt) {
         Ok(status) => status,
@@ -55,7 +55,7 @@ where
 /// Takes the program's words, and the rooms that they ask for, and runs them.
 fn run_words<R: Input + Print + Files + Env + AllocGlobal>(rt: &R) -> io::Result<Status>
 where
-    R::File: FileExt,
+    R::File: FileExt + LockFile,
 {
     let words: Vec<String> = env::args(rt)?.skip(1).collect(rt.alloc())?;
     let mut texts = Vec::with_capacity(rt.alloc(), words.len())?;

@@ -10,6 +10,7 @@ ghost use Rattle.ram_outside.specs.declared.opener.Access.TheVariants.{ReadWrite
 
 use crate::errors::count_error;
 use crate::image::{Image, Length, Moved};
+use crate::lock::LockFile;
 use crate::opener::{Access, Opened, Opener};
 use std::fs::{OpenFile, OpenOptions};
 use std::io;
@@ -134,7 +135,7 @@ fn moved(outcome: io::Result<()>, faults: &mut u64) -> Moved
     }
 }
 
-/// Opens files by their paths, seen as its count of errors.
+/// Opens files by their paths, seen as its count of errors. A file that is written to is locked while it is open.
 #[derive(Drop)]
 pub struct FileOpener<R: Files> {
     rt: R,
@@ -160,7 +161,7 @@ impl<R: Files> FileOpener<R> {
 
 impl<R: Files> FileOpener<R>
 where
-    R::File: FileExt,
+    R::File: FileExt + LockFile,
 {
     /// Opens the file of this path for this.
     fn open_for(&mut self, name: &str, access: Access) -> Opened<FileImage<R::File>>
@@ -168,24 +169,35 @@ where
             (opener_view None None None self.old) (opener_view None None None self.new) result }
         ensures count { self.new ≡ count_after_open result self.old }
     {
-        let mut options = OpenOptions::new();
-        options.read(true);
-        match access {
-            Access::ReadWrite => {
-                options.write(true).create(true);
-            }
-            Access::ReadOnly => {}
-        }
-        match count_error(options.open(&self.rt, name), &mut self.faults) {
+        match count_error(open_file(&self.rt, name, access), &mut self.faults) {
             Some(file) => Opened::Image(FileImage::new(file)),
             None => Opened::Failed,
         }
     }
 }
 
+/// Opens the file of this path for this. One that may be written to is locked; so a second drive over it is refused, and one that only
+/// reads it is not.
+fn open_file<R: Files>(rt: &R, name: &str, access: Access) -> io::Result<R::File>
+where
+    R::File: LockFile,
+{
+    let mut options = OpenOptions::new();
+    options.read(true);
+    match access {
+        Access::ReadWrite => {
+            options.write(true).create(true);
+            let file = options.open(rt, name)?;
+            file.lock_alone()?;
+            Ok(file)
+        }
+        Access::ReadOnly => options.open(rt, name),
+    }
+}
+
 impl<R: Files> Opener for FileOpener<R>
 where
-    R::File: FileExt,
+    R::File: FileExt + LockFile,
 {
     type Image = FileImage<R::File>;
 
@@ -199,8 +211,8 @@ where
 
     ghost faults = { λ o. o };
 
-    /// Opens the file of this path to be read and written. It is made, empty, where there is none; what it holds
-    /// stays.
+    /// Opens the file of this path to be read and written, and locks it. It is made, empty, where there is none; what it holds
+    /// stays. One that is locked already is a failure.
     fn open(&mut self, name: &str) -> Opened<FileImage<R::File>>
         ensures rule { OpenRule (λ i. i) ReadWrite name.now
             (opener_view None None None self.old) (opener_view None None None self.new) result }
@@ -209,7 +221,7 @@ where
         self.open_for(name, Access::ReadWrite)
     }
 
-    /// Opens the file of this path to be read alone. Where there is none it fails, and none is made.
+    /// Opens the file of this path to be read alone, and locks nothing. Where there is none it fails, and none is made.
     fn open_to_read(&mut self, name: &str) -> Opened<FileImage<R::File>>
         ensures rule { OpenRule (λ i. i) ReadOnly name.now
             (opener_view None None None self.old) (opener_view None None None self.new) result }

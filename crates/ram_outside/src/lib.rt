@@ -31,7 +31,8 @@
 //! # What is neither
 //!
 //! - Which bytes a slice holds after a failed read of a file.
-//! - What two programs do to one file at a time.
+//! - What another program does to a file. `FileOpener` locks each file that it opens to be written, and a second one that does is refused;
+//!   that is tested.
 //! - When memory is refused.
 //!
 //! # What is trusted
@@ -50,6 +51,7 @@ pub mod conversation;
 mod errors;
 pub mod file;
 pub mod image;
+pub mod lock;
 pub mod memory;
 pub mod opener;
 pub mod sink;
@@ -59,6 +61,7 @@ pub mod standard;
 pub use conversation::{BothEnds, Conversation};
 pub use file::{FileImage, FileOpener};
 pub use image::{Image, Length, Moved};
+pub use lock::LockFile;
 pub use memory::{MemAsked, MemConversation, MemImage, MemOpener, MemSink, MemSource};
 pub use opener::{Access, Opened, Opener};
 pub use sink::{Put, Sink};

@@ -1,5 +1,5 @@
 //! Rows on real files: what a user would lose, bytes behind a short read or write, and an image that is there already.
-use ram_outside::{FileImage, FileOpener, Image, Opened, Opener};
+use ram_outside::{FileImage, FileOpener, Image, LockFile, Opened, Opener};
 use std::fmt::Write;
 use std::fs::{Metadata, OpenFile, OpenOptions};
 use std::io::{Seek, SeekFrom};
@@ -111,7 +111,7 @@ fn read_missing<R: Files>(
     answer: &mut String,
 ) -> io::Result<()>
 where
-    R::File: FileExt,
+    R::File: FileExt + LockFile,
 {
     let is_open = open_to_read(opener, name).is_some();
     let mut options = OpenOptions::new();
@@ -131,7 +131,7 @@ pub fn answer_file<R: Files + AllocGlobal>(
     answer: &mut String,
 ) -> io::Result<()>
 where
-    R::File: FileExt,
+    R::File: FileExt + LockFile,
 {
     let mut name = String::new(rt.alloc());
     write!(name, "{folder}/disc.img")?;
@@ -152,6 +152,27 @@ where
         opener.close(image);
     }
     fs::remove_dir_all(rt, folder)
+}
+
+/// `NAME`: an image that is open to be written is opened again, to be written and to be read alone; and once more when it is closed.
+pub fn answer_locked<R: Files + AllocGlobal>(
+    rt: &R,
+    name: &str,
+    answer: &mut String,
+) -> io::Result<()>
+where
+    R::File: FileExt + LockFile,
+{
+    let (mut opener, mut other) = (FileOpener::new(rt), FileOpener::new(rt));
+    if let Some(image) = open(&mut opener, name) {
+        let is_open = open(&mut other, name).is_some();
+        let is_read = open_to_read(&mut other, name).is_some();
+        write!(answer, "opened again: {is_open}, to be read: {is_read}, ")?;
+        opener.close(image);
+    }
+    let is_open = open(&mut other, name).is_some();
+    write!(answer, "after it was closed: {is_open}")?;
+    fs::remove_file(rt, name)
 }
 
 /// Makes an image longer, writes into it, and reads it.

@@ -8,9 +8,10 @@ mod files;
 mod images;
 mod streams;
 
-use crate::files::{answer_few, answer_file};
+use crate::files::{answer_few, answer_file, answer_locked};
 use crate::images::answer_image;
 use crate::streams::{answer_copy, answer_sink, answer_source};
+use ram_outside::LockFile;
 use std::io;
 use std::os::unix::fs::FileExt;
 use std::rt::Files;
@@ -28,7 +29,7 @@ fn main(rt: HostRuntime) -> io::Result<()> {
 /// Adds the answer of a row, by its first word.
 fn answer_row<R: Files + AllocGlobal>(rt: &R, row: &str, answer: &mut String) -> io::Result<()>
 where
-    R::File: FileExt,
+    R::File: FileExt + LockFile,
 {
     let (word, rest) = row.split_once(' ').unwrap_or((row, ""));
     match word {
@@ -38,6 +39,7 @@ where
         "sink" => answer_sink(rt.alloc(), rest, answer)?,
         "image" => answer_image(rt.alloc(), rest, answer)?,
         "file" => answer_file(rt, rest, answer)?,
+        "locked" => answer_locked(rt, rest, answer)?,
         "few-at-once" => answer_few(rt, rest, answer)?,
         _ => answer.push_str("no such row")?,
     }
