@@ -28,10 +28,11 @@ IsOutOrCannotLeave shown i = IsGood (home_cell shown i) ⊎ CannotLeave shown i
 abbrev pub CanBeRead : CacheShown → Shown → ℕ → Type 0
 CanBeRead old new i = IsPending old.pending i ⊎ IsGood (home_cell new i)
 
--- so can each block that is covered, or each that is covered in part
+-- so can each block that is covered
 abbrev pub CanReadAll : CacheShown → Shown → (lba n : ℕ) → Type 0
 CanReadAll old new lba n = (k : ℕ) → k < blocks_covered lba n → CanBeRead old new (block_with lba + k)
 
+-- so can each block that is covered in part
 abbrev pub CanReadRests : CacheShown → Shown → (lba n : ℕ) → Type 0
 CanReadRests old new lba n = (k : ℕ) → k < blocks_covered lba n → is_partly lba n (block_with lba + k) ≡ true
     → CanBeRead old new (block_with lba + k)

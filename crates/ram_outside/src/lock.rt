@@ -8,8 +8,8 @@ pub trait LockFile {
     ///
     /// # Answers
     ///
-    /// - `Ok`: it is locked. What the system did is not known. (no clause)
-    /// - `Err`: who opened it elsewhere has locked it, or the system locks no such file. (no clause)
+    /// - `Ok`: it is locked. Then: what the system did is not known. (none)
+    /// - `Err`: who opened it elsewhere has locked it, or the system locks no such file. (none)
     fn lock_alone(&self) -> io::Result<()>;
 }
 

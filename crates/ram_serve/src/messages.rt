@@ -14,7 +14,9 @@ use ram_report::hand_over;
 /// # Answers
 ///
 /// - `Ok`: all of it is written. (`TellRule`)
-/// - `Err`: `SinkFault`: the sink counted a failure; a part of it is written. (`TellRule`)
+/// - `Err`: a part of it is written. (`TellRule`)
+/// - `SinkFault`: the sink counted a failure. (`TellRule`)
+/// - `Done`, `Differs`, `Usage`, `Script`, `ImageFault`, `SourceFault`, `NoMemory`, `NotADisc`: never. (`TellRule`)
 pub fn tell<T: Conversation>(talk: &mut T, bytes: &[u8]) -> Result<(), Status>
     ensures rule { TellRule (T.Sink.Sink.written (T.report talk.old)) (T.Sink.Sink.written (T.report talk.new))
         (T.Sink.Sink.faults (T.report talk.old)) (T.Sink.Sink.faults (T.report talk.new)) bytes.now result }
@@ -33,8 +35,11 @@ pub fn tell<T: Conversation>(talk: &mut T, bytes: &[u8]) -> Result<(), Status>
 /// # Answers
 ///
 /// - `Ok`: they came, and no more was taken. (`FirstRule`)
-/// - `Err`: `Done`: nothing comes any more; `Script`: a part came, and nothing comes any more; `SourceFault`: the source counted a
-///   failure. (`FirstRule`)
+/// - `Err`: they did not all come. (`FirstRule`)
+/// - `Done`: nothing comes any more. (`FirstRule`)
+/// - `Script`: a part came, and nothing comes any more. (`FirstRule`)
+/// - `SourceFault`: the source counted a failure. (`FirstRule`)
+/// - `Differs`, `Usage`, `ImageFault`, `SinkFault`, `NoMemory`, `NotADisc`: never. (`FirstRule`)
 pub fn receive_first<T: Conversation>(talk: &mut T, into: &mut [u8]) -> Result<(), Status>
     ensures rule { FirstRule (T.left talk.old) (T.left talk.new) (T.faults talk.old) (T.faults talk.new) into.new result }
     ensures length { length into.new ≡ length into.old }
@@ -54,7 +59,10 @@ pub fn receive_first<T: Conversation>(talk: &mut T, into: &mut [u8]) -> Result<(
 /// # Answers
 ///
 /// - `Ok`: they came, and no more was taken. (`MoreRule`)
-/// - `Err`: `Script`: fewer came, and nothing comes any more; `SourceFault`: fewer came, and the source counted a failure. (`MoreRule`)
+/// - `Err`: fewer came. (`MoreRule`)
+/// - `Script`: nothing comes any more. (`MoreRule`)
+/// - `SourceFault`: the source counted a failure. (`MoreRule`)
+/// - `Done`, `Differs`, `Usage`, `ImageFault`, `SinkFault`, `NoMemory`, `NotADisc`: never. (`MoreRule`)
 fn receive_more<T: Conversation>(talk: &mut T, into: &mut [u8]) -> Result<(), Status>
     ensures rule { MoreRule (T.left talk.old) (T.left talk.new) (T.faults talk.old) (T.faults talk.new) (length into.old) into.new result }
     ensures length { length into.new ≡ length into.old }
@@ -68,12 +76,15 @@ fn receive_more<T: Conversation>(talk: &mut T, into: &mut [u8]) -> Result<(), St
     }
 }
 
-/// Puts the next so many bytes of a message in the room, in place of what it had.
+/// Puts the next `count` bytes of a message in the room, in place of what it had.
 ///
 /// # Answers
 ///
 /// - `Ok`: they came, and are what the room then holds. (`MoreRule`)
-/// - `Err`: `Script`: fewer came, and nothing comes any more; `SourceFault`: fewer came, and the source counted a failure. (`MoreRule`)
+/// - `Err`: fewer came. (`MoreRule`)
+/// - `Script`: nothing comes any more. (`MoreRule`)
+/// - `SourceFault`: the source counted a failure. (`MoreRule`)
+/// - `Done`, `Differs`, `Usage`, `ImageFault`, `SinkFault`, `NoMemory`, `NotADisc`: never. (`MoreRule`)
 pub fn receive_data<T: Conversation>(
     talk: &mut T,
     count: u32,
@@ -93,12 +104,15 @@ pub fn receive_data<T: Conversation>(
     receive_more(talk, room.as_mut_slice())
 }
 
-/// Reads over the next so many bytes of a message.
+/// Reads over the next `count` bytes of a message.
 ///
 /// # Answers
 ///
-/// - `Ok`: so many bytes came. (`OverRule`)
-/// - `Err`: `Script`: fewer came, and nothing comes any more; `SourceFault`: fewer came, and the source counted a failure. (`OverRule`)
+/// - `Ok`: they came. (`OverRule`)
+/// - `Err`: fewer came. (`OverRule`)
+/// - `Script`: nothing comes any more. (`OverRule`)
+/// - `SourceFault`: the source counted a failure. (`OverRule`)
+/// - `Done`, `Differs`, `Usage`, `ImageFault`, `SinkFault`, `NoMemory`, `NotADisc`: never. (`OverRule`)
 pub fn read_over<T: Conversation>(
     talk: &mut T,
     count: u32,

@@ -11,10 +11,11 @@ use Rattle.ram_machine.specs.States.{State, Unopened, Disc, kind_of, IsFirst}
 use Rattle.ram_machine.specs.Runs.{Run}
 use Rattle.ram_script.specs.Progress.{Beginning}
 
--- MODE SELECT(10) of the caching page, by which the write cache is on: its block, and its data
+-- MODE SELECT(10) of the caching page, by which the write cache is on
 abbrev pub cache_on_cdb : List ℕ
 cache_on_cdb = 0x55 ∷ 0x10 ∷ replicate 6 0 ++ 20 ∷ 0 ∷ []
 
+-- its data: the header, and the caching page with the write cache on
 abbrev pub cache_on_page : List ℕ
 cache_on_page = replicate 8 0 ++ 8 ∷ 10 ∷ 4 ∷ replicate 9 0
 

@@ -115,11 +115,12 @@ pub record EndsAtFault (first : Beginning) (faults : List Line) (after : Afterma
   pub ungreeted : IsNotGreeted first after
   pub image_is : LeavesImage state after.image
 
--- The image failed before a client was greeted: in the opening of it, which leaves its bytes; or in a line.
+-- The image failed when it was opened, which leaves its bytes.
 pub record EndsUnopened (first : Beginning) (after : Aftermath) : Type 0 where
   pub ungreeted : IsNotGreeted first after
   pub image_is : after.image ≡ Some first.image
 
+-- The image failed in a line before a client was greeted.
 pub record EndsInOpening (first : Beginning) (faults : List Line) (after : Aftermath) : Type 0 where
   pub part : IsOpenedInPart first faults
   pub data_in : List ℕ

@@ -30,7 +30,9 @@ pub const REQUEST_ROOM: usize = REPLY_BYTES + MOST_BYTES as usize;
 /// # Answers
 ///
 /// - `Ok`: the commands were done, and the reply tells how. (`RequestDone`)
-/// - `Err`: `ImageFault`: the image failed in a command; those before it were good. (`ChainFails`)
+/// - `Err`: a command was not done. (`ChainFails`)
+/// - `ImageFault`: the image failed in a command; those before it were good. (`ChainFails`)
+/// - `NotADisc`, `NotInLanguage`, `LineTooLong`, `ScriptTooLong`, `SourceFault`, `SinkFault`: never. (`ChainFails`)
 pub fn answer_request<D: Drive>(
     inserted: &mut Inserted<D>,
     operation: NbdOperation,
