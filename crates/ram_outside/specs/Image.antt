@@ -52,3 +52,8 @@ SetLenRule before after faults faults' len moves.Failed =
 abbrev pub SyncRule : Option (List ℕ) → Option (List ℕ) → ℕ → ℕ → Moved → Type 0
 SyncRule before after faults faults' moves.Done = IsUnchanged before after faults faults'
 SyncRule before after faults faults' moves.Failed = ImageFails before after faults faults'
+
+-- the call failed, since one had failed before, and no byte changed (this project's own)
+pub record FailsAgain {A : Type 0} (failed result : A) (before after : Option (List ℕ)) : Type 0 where
+  pub again : result ≡ failed
+  pub same : after ≡ before

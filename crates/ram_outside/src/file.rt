@@ -1,7 +1,7 @@
 //! Disc images that are files. No bytes of them are known; what the system does is trusted.
 ghost use Rattle.std.specs.Prelude.{◌≡◌, ℕ, ◌<◌, ◌↔◌, false, IsTrue, None, if◌then◌else◌};
 ghost use Rattle.model_counts.specs.Counts.{counted};
-ghost use Rattle.ram_outside.specs.Image.{LenRule, ReadAtRule, WriteAtRule, SetLenRule, SyncRule};
+ghost use Rattle.ram_outside.specs.Image.{LenRule, ReadAtRule, WriteAtRule, SetLenRule, SyncRule, FailsAgain};
 ghost use Rattle.ram_outside.specs.declared.image.Length.TheVariants as lengths;
 ghost use Rattle.ram_outside.specs.declared.image.Moved.TheVariants as moves;
 ghost use Rattle.ram_outside.specs.Opener.{OpenRule, CloseRule, opener_view};
@@ -67,7 +67,7 @@ impl<F: FileExt + Seek + OpenFile + Drop> Image for FileImage<F> {
     fn len(&mut self) -> Length
         ensures rule { LenRule None None self.old self.new result }
         ensures count { self.new ≡ count_after_len result self.old }
-        ensures stops { 0 < self.old → result ≡ lengths.Failed }
+        ensures stops { 0 < self.old → FailsAgain lengths.Failed result None None }
     {
         if self.fails_again() {
             return Length::Failed;
@@ -82,7 +82,7 @@ impl<F: FileExt + Seek + OpenFile + Drop> Image for FileImage<F> {
     fn read_at(&mut self, at: u64, into: &mut [u8]) -> Moved
         ensures rule { ReadAtRule None None self.old self.new at into.new result }
         ensures count { self.new ≡ count_after_move result self.old }
-        ensures stops { 0 < self.old → result ≡ moves.Failed }
+        ensures stops { 0 < self.old → FailsAgain moves.Failed result None None }
     {
         if self.fails_again() {
             return Moved::Failed;
@@ -94,7 +94,7 @@ impl<F: FileExt + Seek + OpenFile + Drop> Image for FileImage<F> {
     fn write_at(&mut self, at: u64, from: &[u8]) -> Moved
         ensures rule { WriteAtRule None None self.old self.new at from.now result }
         ensures count { self.new ≡ count_after_move result self.old }
-        ensures stops { 0 < self.old → result ≡ moves.Failed }
+        ensures stops { 0 < self.old → FailsAgain moves.Failed result None None }
     {
         if self.fails_again() {
             return Moved::Failed;
@@ -106,7 +106,7 @@ impl<F: FileExt + Seek + OpenFile + Drop> Image for FileImage<F> {
     fn set_len(&mut self, len: u64) -> Moved
         ensures rule { SetLenRule None None self.old self.new len result }
         ensures count { self.new ≡ count_after_move result self.old }
-        ensures stops { 0 < self.old → result ≡ moves.Failed }
+        ensures stops { 0 < self.old → FailsAgain moves.Failed result None None }
     {
         if self.fails_again() {
             return Moved::Failed;
@@ -117,7 +117,7 @@ impl<F: FileExt + Seek + OpenFile + Drop> Image for FileImage<F> {
     fn sync(&mut self) -> Moved
         ensures rule { SyncRule None None self.old self.new result }
         ensures count { self.new ≡ count_after_move result self.old }
-        ensures stops { 0 < self.old → result ≡ moves.Failed }
+        ensures stops { 0 < self.old → FailsAgain moves.Failed result None None }
     {
         if self.fails_again() {
             return Moved::Failed;

@@ -1,7 +1,7 @@
 //! The trait `Image`: the bytes of a disc image, read and written at places. Definitions alone.
-ghost use Rattle.std.specs.Prelude.{◌≡◌, ℕ, ◌+◌, ◌<◌, ◌≤◌, Option, List, length};
+ghost use Rattle.std.specs.Prelude.{ℕ, ◌+◌, ◌<◌, ◌≤◌, Option, List, length};
 ghost use Rattle.std.specs.Option.{ForSome};
-ghost use Rattle.ram_outside.specs.Image.{LenRule, ReadAtRule, WriteAtRule, SetLenRule, SyncRule};
+ghost use Rattle.ram_outside.specs.Image.{LenRule, ReadAtRule, WriteAtRule, SetLenRule, SyncRule, FailsAgain};
 ghost use Rattle.ram_outside.specs.Past.{Moment, IsFailStop, LenPast, ReadPast, WritePast, image_view};
 ghost use Rattle.ram_outside.specs.declared.image.Length.TheVariants as lengths;
 ghost use Rattle.ram_outside.specs.declared.image.Moved.TheVariants as moves;
@@ -45,7 +45,7 @@ pub trait Image {
     ///
     /// - `rule` (`LenRule`): what each answer says of the bytes, as told below.
     /// - `past`: what the call adds to the past of the image: one moment where it may have changed bytes, or failed.
-    /// - `stops`: An image that has failed fails again.
+    /// - `stops`: An image that has failed fails again, and no byte changes.
     ///
     /// # Answers
     ///
@@ -55,7 +55,7 @@ pub trait Image {
         ensures rule { LenRule (bytes self.old) (bytes self.new) (faults self.old) (faults self.new) result }
         ensures past { LenPast (image_view (bytes self.old) (past self.old))
             (image_view (bytes self.new) (past self.new)) result }
-        ensures stops { 0 < faults self.old → result ≡ lengths.Failed };
+        ensures stops { 0 < faults self.old → FailsAgain lengths.Failed result (bytes self.old) (bytes self.new) };
 
     /// Reads the bytes from byte `at` on into the whole of `into`; the range lies inside the image. It changes no byte
     /// of the image. `Failed` says nothing of what `into` then holds.
@@ -64,7 +64,7 @@ pub trait Image {
     ///
     /// - `rule` (`ReadAtRule`): what each answer says of the bytes, as told below.
     /// - `past`: what the call adds to the past of the image: one moment where it may have changed bytes, or failed.
-    /// - `stops`: An image that has failed fails again.
+    /// - `stops`: An image that has failed fails again, and no byte changes.
     ///
     /// # Answers
     ///
@@ -76,7 +76,7 @@ pub trait Image {
             (faults self.old) (faults self.new) at into.new result }
         ensures past { ReadPast (image_view (bytes self.old) (past self.old))
             (image_view (bytes self.new) (past self.new)) result }
-        ensures stops { 0 < faults self.old → result ≡ moves.Failed };
+        ensures stops { 0 < faults self.old → FailsAgain moves.Failed result (bytes self.old) (bytes self.new) };
 
     /// Writes all of `from` from byte `at` on; the range lies inside the image. Where it fails, each byte of that range
     /// is the old or the new one, and nothing else differs.
@@ -85,7 +85,7 @@ pub trait Image {
     ///
     /// - `rule` (`WriteAtRule`): what each answer says of the bytes, as told below.
     /// - `past`: what the call adds to the past of the image: one moment where it may have changed bytes, or failed.
-    /// - `stops`: An image that has failed fails again.
+    /// - `stops`: An image that has failed fails again, and no byte changes.
     ///
     /// # Answers
     ///
@@ -98,7 +98,7 @@ pub trait Image {
             (faults self.old) (faults self.new) at from.now result }
         ensures past { WritePast (image_view (bytes self.old) (past self.old))
             (image_view (bytes self.new) (past self.new)) result }
-        ensures stops { 0 < faults self.old → result ≡ moves.Failed };
+        ensures stops { 0 < faults self.old → FailsAgain moves.Failed result (bytes self.old) (bytes self.new) };
 
     /// Makes the image `len` bytes long: keeps the bytes below both lengths, and grows with zeros. Where it fails, the
     /// image is as it was, or as after a call that is done.
@@ -107,7 +107,7 @@ pub trait Image {
     ///
     /// - `rule` (`SetLenRule`): what each answer says of the bytes, as told below.
     /// - `past`: what the call adds to the past of the image: one moment where it may have changed bytes, or failed.
-    /// - `stops`: An image that has failed fails again.
+    /// - `stops`: An image that has failed fails again, and no byte changes.
     ///
     /// # Answers
     ///
@@ -118,7 +118,7 @@ pub trait Image {
             (faults self.old) (faults self.new) len result }
         ensures past { WritePast (image_view (bytes self.old) (past self.old))
             (image_view (bytes self.new) (past self.new)) result }
-        ensures stops { 0 < faults self.old → result ≡ moves.Failed };
+        ensures stops { 0 < faults self.old → FailsAgain moves.Failed result (bytes self.old) (bytes self.new) };
 
     /// Waits until all that was written is where no failure of the system can lose it, as `File::sync_data` does. It changes no byte.
     ///
@@ -126,7 +126,7 @@ pub trait Image {
     ///
     /// - `rule` (`SyncRule`): no byte of the image changes, whatever the answer.
     /// - `past`: what the call adds to the past of the image: one moment where it failed.
-    /// - `stops`: An image that has failed fails again.
+    /// - `stops`: An image that has failed fails again, and no byte changes.
     ///
     /// # Answers
     ///
@@ -136,5 +136,5 @@ pub trait Image {
         ensures rule { SyncRule (bytes self.old) (bytes self.new) (faults self.old) (faults self.new) result }
         ensures past { ReadPast (image_view (bytes self.old) (past self.old))
             (image_view (bytes self.new) (past self.new)) result }
-        ensures stops { 0 < faults self.old → result ≡ moves.Failed };
+        ensures stops { 0 < faults self.old → FailsAgain moves.Failed result (bytes self.old) (bytes self.new) };
 }

@@ -38,10 +38,11 @@ module _ {I : Type 0} (bytes_of : I → Option (List ℕ)) (past_of : I → Opti
         → IsInLanguage first.script → BeginsWithDisc first → NoneRose old.counts new.counts → IsComplete status
     pub fails : knows ≡ true → status ≡ statuses.ImageFault → EndsAtFailure bytes_of past_of new ⊎ IsNotOpened old new
 
-  -- What is promised of the script that is drawn from this number, over the image of this name.
+  -- What is promised of the script that is drawn from this number, over the image of this name. An image that failed ends as above.
   pub record RunsDrawn (name : List ℕ) (seed : ℕ) : Type 0 where
     pub asks : AsksUnread old new ReadWrite name status
     pub generate : (first : Beginning) → BeginsFrom bytes_of seed first old knows → Generates bytes_of seed first old new status
+    pub fails : knows ≡ true → status ≡ statuses.ImageFault → EndsAtFailure bytes_of past_of new ⊎ IsNotOpened old new
 
   -- All promises, by the words of the program.
   pub record Promises (words : List (List ℕ)) : Type 0 where

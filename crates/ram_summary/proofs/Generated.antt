@@ -80,3 +80,13 @@ pub image_known : {I : Type 0} (bytes_of : I → Option (List ℕ)) (seed : ℕ)
     → IfSome before.opener.next (λ known. image ≡ known) → bytes_of image ≡ Some first.image
 image_known {I = I} bytes_of seed first before returned_known image known is =
     subst (λ (i : I). bytes_of i ≡ Some first.image) (sym (subst (λ (o : Option I). IfSome o (λ due. image ≡ due)) known.next_is is)) known.image_is
+
+-- the status of lines that the image stopped
+pub image_rose : (f f' : ℕ) (why : Stopped) → status_of (Err why) ≡ statuses.ImageFault → EndCount f f' (Err why) → Rose f f'
+image_rose f f' stopped.NotInLanguage is counts = absurd (cc)
+image_rose f f' stopped.LineTooLong is counts = absurd (cc)
+image_rose f f' stopped.ScriptTooLong is counts = absurd (cc)
+image_rose f f' stopped.NotADisc is counts = absurd (cc)
+image_rose f f' stopped.SourceFault is counts = absurd counts
+image_rose f f' stopped.SinkFault is counts = absurd counts
+image_rose f f' stopped.ImageFault is counts = counts

@@ -1,12 +1,14 @@
 //! The run of a script that is drawn from a number, and its summary in place of the report.
-ghost use Rattle.std.specs.Prelude.{◌≡◌, ◌≤◌, ℕ, Option, Some, List, [], vec_capacity};
+ghost use Rattle.std.specs.Prelude.{◌≡◌, ◌≤◌, ◌⊎◌, ℕ, true, Option, Some, List, [], vec_capacity};
 ghost use Rattle.model_geometry.specs.declared.kinds.LayoutKind.TheVariants.{OneGroup};
 ghost use Rattle.ram_summary.specs.declared.summary.TheConstants.{SUMMARY_ROOM};
 ghost use Rattle.ram_summary.specs.Rooms.{AreReadyFor};
 ghost use Rattle.ram_script.specs.Rooms.{AreReady};
 ghost use Rattle.ram_script.specs.Progress.{Beginning};
 ghost use Rattle.ram_outside.specs.declared.opener.Access.TheVariants.{ReadWrite};
-ghost use Rattle.ram_script.specs.Around.{AsksOnce, TextCount, WritesText};
+ghost use Rattle.ram_script.specs.Around.{AsksOnce, IsNotOpened, TextCount, WritesText};
+ghost use Rattle.ram_script.specs.Opened.{EndsAtFailure};
+ghost use Rattle.ram_machine.specs.declared.status.Status.TheVariants as statuses;
 ghost use Rattle.ram_script.specs.Endings.{IsOfRun, StatusCounts};
 ghost use Rattle.ram_summary.specs.Summary.{tally_text};
 ghost use Rattle.ram_script.specs.Leaving.{LeavesBy};
@@ -34,8 +36,8 @@ use ram_volume::Volume;
 ///
 /// - `Done`: the whole script was answered, and the summary is written. (`Generates`)
 /// - `SinkFault`: the whole script was answered, and a beginning of the summary is written. (`Generates`)
-/// - `Script`, `ImageFault`, `NotADisc`: nothing is written, and the image is as the lines leave it, or was not opened.
-///   (`Generates`)
+/// - `Script`, `ImageFault`, `NotADisc`: nothing is written, and the image is as the lines leave it, or was not opened. One that
+///   failed has the bytes right after the first of its calls that did. (`Generates`, `EndsAtFailure`)
 /// - `Differs`, `Usage`, `NoMemory`, `SourceFault`: never. (`Generates`)
 pub fn generate_image<K: Sink, O: Opener>(
     rooms: GenerateRooms,
@@ -58,6 +60,12 @@ pub fn generate_image<K: Sink, O: Opener>(
         → Generates O.Image.bytes seed first
         (beside heard K.Sink O.Opener report.old opener.old)
         (beside heard K.Sink O.Opener report.new opener.new) result }
+    ensures fails { (heard : Heard) → O.returned_known ≡ true → result ≡ statuses.ImageFault
+        → EndsAtFailure O.Image.bytes O.Image.past
+        (beside heard K.Sink O.Opener report.new opener.new)
+        ⊎ IsNotOpened
+        (beside heard K.Sink O.Opener report.old opener.old)
+        (beside heard K.Sink O.Opener report.new opener.new) }
 {
     let GenerateRooms {
         lines,

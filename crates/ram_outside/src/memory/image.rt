@@ -1,7 +1,7 @@
 //! An image in memory. It touches its own bytes, and the slice of a read that is done.
 ghost use Rattle.std.specs.Prelude.{◌≡◌, ◌+◌, ◌<◌, ◌≤◌, ◌↔◌, IsTrue, Some, None, IsOk, OnOk, [], if◌then◌else◌, length, vec_capacity};
 ghost use Rattle.ram_outside.specs.Added.{AddsNow};
-ghost use Rattle.ram_outside.specs.Image.{LenRule, ReadAtRule, WriteAtRule, SetLenRule, SyncRule};
+ghost use Rattle.ram_outside.specs.Image.{LenRule, ReadAtRule, WriteAtRule, SetLenRule, SyncRule, FailsAgain};
 ghost use Rattle.ram_outside.specs.Past.{LenPast, ReadPast, WritePast};
 ghost use Rattle.ram_outside.specs.Calls.{no_calls, with_call, with_failed_call};
 ghost use Rattle.ram_outside.specs.Memory.{NextImageCallFails, GivesLengthExactly, ReadsImageExactly, WritesImageExactly, ResizesExactly, SyncsExactly, unfailed};
@@ -159,7 +159,7 @@ impl Image for MemImage {
         ensures rule { LenRule (Some self.old.bytes) (Some self.new.bytes)
             self.old.calls.faults self.new.calls.faults result }
         ensures past { LenPast (view_now self.old) (view_now self.new) result }
-        ensures stops { 0 < self.old.calls.faults → result ≡ lengths.Failed }
+        ensures stops { 0 < self.old.calls.faults → FailsAgain lengths.Failed result (Some self.old.bytes) (Some self.new.bytes) }
         ensures exactly { GivesLengthExactly self.old self.new result }
     {
         if self.next_fails() {
@@ -173,7 +173,7 @@ impl Image for MemImage {
         ensures rule { ReadAtRule (Some self.old.bytes) (Some self.new.bytes)
             self.old.calls.faults self.new.calls.faults at into.new result }
         ensures past { ReadPast (view_now self.old) (view_now self.new) result }
-        ensures stops { 0 < self.old.calls.faults → result ≡ moves.Failed }
+        ensures stops { 0 < self.old.calls.faults → FailsAgain moves.Failed result (Some self.old.bytes) (Some self.new.bytes) }
         ensures exactly { ReadsImageExactly self.old self.new at into.old into.new result }
     {
         if self.next_fails() {
@@ -189,7 +189,7 @@ impl Image for MemImage {
         ensures rule { WriteAtRule (Some self.old.bytes) (Some self.new.bytes)
             self.old.calls.faults self.new.calls.faults at from.now result }
         ensures past { WritePast (view_now self.old) (view_now self.new) result }
-        ensures stops { 0 < self.old.calls.faults → result ≡ moves.Failed }
+        ensures stops { 0 < self.old.calls.faults → FailsAgain moves.Failed result (Some self.old.bytes) (Some self.new.bytes) }
         ensures exactly { WritesImageExactly self.old self.new at from.now result }
     {
         if self.next_fails() {
@@ -205,7 +205,7 @@ impl Image for MemImage {
         ensures rule { SetLenRule (Some self.old.bytes) (Some self.new.bytes)
             self.old.calls.faults self.new.calls.faults len result }
         ensures past { WritePast (view_now self.old) (view_now self.new) result }
-        ensures stops { 0 < self.old.calls.faults → result ≡ moves.Failed }
+        ensures stops { 0 < self.old.calls.faults → FailsAgain moves.Failed result (Some self.old.bytes) (Some self.new.bytes) }
         ensures exactly { ResizesExactly self.old self.new len result }
     {
         if self.next_fails() {
@@ -231,7 +231,7 @@ impl Image for MemImage {
         ensures rule { SyncRule (Some self.old.bytes) (Some self.new.bytes)
             self.old.calls.faults self.new.calls.faults result }
         ensures past { ReadPast (view_now self.old) (view_now self.new) result }
-        ensures stops { 0 < self.old.calls.faults → result ≡ moves.Failed }
+        ensures stops { 0 < self.old.calls.faults → FailsAgain moves.Failed result (Some self.old.bytes) (Some self.new.bytes) }
         ensures exactly { SyncsExactly self.old self.new result }
     {
         if self.next_fails() {

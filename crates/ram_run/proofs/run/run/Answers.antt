@@ -78,6 +78,7 @@ returns-in-Some-Generate g c =
           (of_drawn g.O.Image.Image.bytes g.O.Image.Image.past g.O.Opener.returned_known before after c.generate_image.result texts ran.other (ran.causes heard) c.in-Some-Generate.name.now c.in-Some-Generate.seed told (record {
             asks = record { asks = ran.asks heard; left = refl; asked = refl; count = refl };
             generate = ran.generate heard;
+            fails = ran.fails heard;
           }));
     }
 
