@@ -1,7 +1,7 @@
 use Rattle.std.proofs.Common.{◌-◌, ◌++◌, arith, ◌∙◌, subst}
 use Rattle.std.proofs.lemmas.Result.{err_from_is_err_and}
 use Rattle.ram_outside.specs.Conversation.{AsksOnly}
-use Rattle.ram_outside.proofs.Asks.{asks_then}
+use Rattle.ram_outside.proofs.Additions.{added_then}
 use Rattle.ram_receive.specs.Receiving.{HasWritten}
 use Rattle.ram_serve.proofs.Came.{over_more, over_stopped}
 use Rattle.ram_serve.proofs.messages.read_over.Goals as goal
@@ -18,7 +18,7 @@ returns-in_err-receive_data-clause-rule g c =
 
 pub returns-in_err-receive_data-clause-asks : goal.returns-in_err-receive_data-clause-asks
 returns-in_err-receive_data-clause-asks g c =
-    asks_then (HasWritten (g.T.Sink.Sink.written (g.T.Conversation.report c.args.talk.now))) (g.T.Conversation.asked c.args.talk.now)
+    added_then (HasWritten (g.T.Sink.Sink.written (g.T.Conversation.report c.args.talk.now))) (g.T.Conversation.asked c.args.talk.now)
     (g.T.Conversation.asked c.loop-left.talk) (g.T.Conversation.asked c.receive_data.new.talk) c.loop-left.invariant.asks
     (subst (λ sink. AsksOnly (HasWritten (g.T.Sink.Sink.written sink)) (g.T.Conversation.asked c.loop-left.talk) (g.T.Conversation.asked c.receive_data.new.talk))
     c.loop-left.invariant.same c.receive_data.ensures.asks)
@@ -39,7 +39,7 @@ loop-left-preserved g c =
       );
       same = c.receive_data.ensures.same ∙ c.loop-left.invariant.same;
       asks =
-          asks_then (HasWritten (g.T.Sink.Sink.written (g.T.Conversation.report c.args.talk.now))) (g.T.Conversation.asked c.args.talk.now)
+          added_then (HasWritten (g.T.Sink.Sink.written (g.T.Conversation.report c.args.talk.now))) (g.T.Conversation.asked c.args.talk.now)
           (g.T.Conversation.asked c.loop-left.talk) (g.T.Conversation.asked c.receive_data.new.talk) c.loop-left.invariant.asks
           (subst (λ sink. AsksOnly (HasWritten (g.T.Sink.Sink.written sink)) (g.T.Conversation.asked c.loop-left.talk) (g.T.Conversation.asked c.receive_data.new.talk))
           c.loop-left.invariant.same c.receive_data.ensures.asks);
