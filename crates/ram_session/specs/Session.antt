@@ -1,6 +1,6 @@
 -- A whole session of a client, and what stands with each status when it ends. For the main clause of the word that serves a client.
 -- (This project's own, as all here.)
-use Rattle.std.specs.Prelude.{◌≡◌, ℕ, ◌<◌, ◌⊎◌, Some, Ok, Err, List, [], ◌∷◌, ◌++◌, length, take}
+use Rattle.std.specs.Prelude.{◌≡◌, ℕ, ◌<◌, ◌⊎◌, Option, Some, Ok, Err, List, [], ◌∷◌, ◌++◌, length, take}
 use Rattle.std.specs.Io.KnownBytes.{prepend_known}
 use Rattle.model_nbd.specs.Messages.{greeting, Request, IsRequest, request_bytes}
 use Rattle.model_nbd.specs.Handshake.{Serving}
@@ -43,18 +43,19 @@ abbrev pub earlier : List Turned → List ℕ
 earlier [] = []
 earlier (turned ∷ before) = told_in before
 
--- How a session ends, of which so much came.
-module _ {first : Beginning} {faults : List Line} (far : SoFar first faults) (after : Aftermath) where
-  -- All that was due was told, and the image is as the messages leave it. Of what follows them these bytes came, and no others.
+-- How a session ends, of which so much came: what is left to come, what is written, and which states may be left.
+module _ {first : Beginning} {faults : List Line} (far : SoFar first faults) (leaves : State → Type 0)
+    (left written : Option (List ℕ)) where
+  -- All that was due was told, and what is left is as the messages leave it. Of what follows them these bytes came, and no others.
   pub record IsLeftAt (came : List ℕ) : Type 0 where
-    pub written_is : after.written ≡ Some (first.report ++ told_in far.turns)
-    pub left_is : prepend_known came after.left ≡ Some far.rest
-    pub image_is : LeavesImage far.now after.image
+    pub written_is : written ≡ Some (first.report ++ told_in far.turns)
+    pub left_is : prepend_known came left ≡ Some far.rest
+    pub leaves_now : leaves far.now
 
   -- The client left, or what it sends ended behind a message.
   pub record HasEnded : Type 0 where
     pub ended : (far.phase ≡ Left) ⊎ (far.rest ≡ [])
-    pub left : IsLeftAt []
+    pub at : IsLeftAt []
 
   -- The protocol has no answer to the last message; or what follows it is no message, or only a part of one.
   abbrev pub BreaksProtocol : Type 0
@@ -65,17 +66,17 @@ module _ {first : Beginning} {faults : List Line} (far : SoFar first faults) (af
   pub record IsCutBySource : Type 0 where
     pub came : List ℕ
     pub no_message : BeginsNoMessage far.phase came
-    pub left : IsLeftAt came
+    pub at : IsLeftAt came
 
   -- The sink failed in the newest answer, or in the greeting: all before it was told, and a part of it.
   pub record IsCutBySink : Type 0 where
     pub n : ℕ
     pub part : n < length (newest far.turns)
-    pub written_is : after.written ≡ Some (first.report ++ (earlier far.turns ++ take n (newest far.turns)))
-    pub left_is : after.left ≡ Some far.rest
-    pub image_is : LeavesImage far.now after.image
+    pub written_is : written ≡ Some (first.report ++ (earlier far.turns ++ take n (newest far.turns)))
+    pub left_is : left ≡ Some far.rest
+    pub leaves_now : leaves far.now
 
-  -- The next message is a request. Its first commands were good, and in the next one the image failed; the image is as it leaves it.
+  -- The next message is a request. Its first commands were good, and in the next one the image failed, as which it is left.
   -- Nothing is told of the request.
   pub record IsCutByImage : Type 0 where
     pub size : ℕ
@@ -95,9 +96,19 @@ module _ {first : Beginning} {faults : List Line} (far : SoFar first faults) (af
     pub data_in : List ℕ
     pub state : State
     pub step : Step mid (lines.Command command.cdb) command.payload (Err stopped.ImageFault) data_in state
-    pub written_is : after.written ≡ Some (first.report ++ told_in far.turns)
-    pub left_is : after.left ≡ Some rest
-    pub image_is : LeavesImage state after.image
+    pub written_is : written ≡ Some (first.report ++ told_in far.turns)
+    pub left_is : left ≡ Some rest
+    pub leaves_state : leaves state
+
+-- How a session ends in which a client was greeted, by its status.
+abbrev pub TalkEnds : Beginning → (faults : List Line) → (leaves : State → Type 0) → (left written : Option (List ℕ)) → Status
+    → Type 0
+TalkEnds first faults leaves left written statuses.Done = (far : SoFar first faults) × HasEnded far leaves left written
+TalkEnds first faults leaves left written statuses.Script = (far : SoFar first faults) × BreaksProtocol far leaves left written
+TalkEnds first faults leaves left written statuses.SourceFault = (far : SoFar first faults) × IsCutBySource far leaves left written
+TalkEnds first faults leaves left written statuses.SinkFault = (far : SoFar first faults) × IsCutBySink far leaves left written
+TalkEnds first faults leaves left written statuses.ImageFault = (far : SoFar first faults) × IsCutByImage far leaves left written
+TalkEnds first faults leaves left written _ = ⊥
 
 -- No client was greeted: nothing came and nothing was told.
 pub record IsNotGreeted (first : Beginning) (after : Aftermath) : Type 0 where
@@ -129,16 +140,16 @@ pub record EndsInOpening (first : Beginning) (faults : List Line) (after : After
   pub ungreeted : IsNotGreeted first after
   pub image_is : LeavesImage state after.image
 
+-- A client was greeted, and the session ended with this status. The image is as its messages leave it.
+abbrev pub EndsGreeted : Beginning → (faults : List Line) → Aftermath → Status → Type 0
+EndsGreeted first faults after status = TalkEnds first faults (λ s. LeavesImage s after.image) after.left after.written status
+
 -- What stands with each status of a session, where the bytes of source, sink and image are known.
 abbrev pub SessionStands : Beginning → (faults : List Line) → Aftermath → Status → Type 0
-SessionStands first faults after statuses.Done = (far : SoFar first faults) × HasEnded far after
-SessionStands first faults after statuses.Script =
-    EndsAtFault first faults after ⊎ ((far : SoFar first faults) × BreaksProtocol far after)
+SessionStands first faults after statuses.Script = EndsAtFault first faults after ⊎ EndsGreeted first faults after statuses.Script
 SessionStands first faults after statuses.ImageFault =
-    EndsUnopened first after ⊎ EndsInOpening first faults after ⊎ ((far : SoFar first faults) × IsCutByImage far after)
-SessionStands first faults after statuses.SourceFault = (far : SoFar first faults) × IsCutBySource far after
-SessionStands first faults after statuses.SinkFault = (far : SoFar first faults) × IsCutBySink far after
-SessionStands first faults after _ = ⊥
+    EndsUnopened first after ⊎ EndsInOpening first faults after ⊎ EndsGreeted first faults after statuses.ImageFault
+SessionStands first faults after status = EndsGreeted first faults after status
 
 -- The count that a status tells of rose, and no other; with every other status nothing failed at all.
 abbrev pub SessionCounts : (before after : Counts) → Status → Type 0
