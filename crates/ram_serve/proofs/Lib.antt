@@ -1,1 +1,3 @@
-mod Came
+pub mod Came
+pub mod Requested
+pub mod Served

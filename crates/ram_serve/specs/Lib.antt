@@ -1,2 +1,4 @@
 pub mod Messages
+pub mod Taking
+pub mod Turns
 pub mod Rooms

@@ -3,15 +3,16 @@
 use Rattle.std.specs.Prelude.{◌≡◌, ℕ, ◌<◌, Option, Result, Ok, Err, List, [], length, take}
 use Rattle.std.specs.Io.KnownBytes.{IsAtEnd, append_known}
 use Rattle.model_counts.specs.Counts.{Rose}
+use Rattle.ram_outside.specs.Sink.{FailsOnce}
 use Rattle.ram_receive.specs.Receiving.{Went}
 use Rattle.ram_machine.specs.declared.status.Status.{Status}
 use Rattle.ram_machine.specs.declared.status.Status.TheVariants as statuses
 
--- Telling: all of it is written; or the sink failed in it, and a part of it is.
+-- Telling: all of it is written; or the sink failed in it, once, and a part of it is.
 abbrev pub TellRule : (written written' : Option (List ℕ)) → (faults faults' : ℕ) → List ℕ → Result (Unit {0}) Status → Type 0
 TellRule written written' faults faults' bytes (Ok done) = (written' ≡ append_known written bytes) × (faults' ≡ faults)
 TellRule written written' faults faults' bytes (Err statuses.SinkFault) =
-    (n : ℕ) × (n < length bytes) × (written' ≡ append_known written (take n bytes)) × Rose faults faults'
+    (n : ℕ) × (n < length bytes) × (written' ≡ append_known written (take n bytes)) × FailsOnce faults faults'
 TellRule written written' faults faults' bytes (Err status) = ⊥
 
 module _ (left left' : Option (List ℕ)) (faults faults' : ℕ) where

@@ -1,0 +1,77 @@
+-- What taking the next message may do, by how it ended: what is left to come, before and after, and the counts. For the calls that take
+-- the messages of a client. (This project's own, as all here.)
+use Rattle.std.specs.Prelude.{◌≡◌, ℕ, ◌<◌, ◌≤◌, Option, Some, Result, Ok, Err, List, [], ◌++◌, length}
+use Rattle.model_counts.specs.Counts.{Rose}
+use Rattle.model_nbd.specs.declared.Header.{Header}
+use Rattle.model_nbd.specs.declared.NbdOperation.{NbdOperation}
+use Rattle.model_nbd.specs.declared.NbdOperation.TheVariants as operations
+use Rattle.model_nbd.specs.Messages.{IsHeader, header_bytes, data_after, Request, IsRequest, request_bytes}
+use Rattle.model_nbd.specs.Operations.{request_asks}
+use Rattle.model_nbd.specs.Commands.{commands_of}
+use Rattle.ram_receive.specs.Receiving.{Went}
+use Rattle.ram_machine.specs.declared.status.Status.{Status}
+use Rattle.ram_machine.specs.declared.status.Status.TheVariants as statuses
+use Rattle.ram_session.specs.Talk.{Phase, BeginsNoMessage}
+use Rattle.ram_transmission.specs.Requests.{Fits}
+use Rattle.ram_serve.specs.declared.incoming.Incoming.{Incoming}
+use Rattle.ram_serve.specs.Messages.{EndsAfter, MoreRule}
+
+-- the data of a write are in the room
+abbrev pub HoldsData : NbdOperation → (payload room : List ℕ) → Type 0
+HoldsData (operations.Write lba n fua) payload room = room ≡ payload
+HoldsData _ payload room = Unit {0}
+
+-- The data of a write follow its header, and the room of a request holds them.
+abbrev pub TakesData : Header → NbdOperation → Type 0
+TakesData header (operations.Write lba n fua) = (header.kind ≡ 1) × (header.len ≤ 33554432)
+TakesData header _ = Unit {0}
+
+module _ (left left' : Option (List ℕ)) (faults faults' : ℕ) where
+  -- These bytes came, and begin no message of this phase, whatever follows them of what is left.
+  pub record IsNoMessage (phase : Phase) : Type 0 where
+    pub came : List ℕ
+    pub some : 0 < length came
+    pub went : Went left left' came
+    pub none : (rest : List ℕ) → left' ≡ Some rest → BeginsNoMessage phase (came ++ rest)
+    pub count : faults' ≡ faults
+
+  -- The source failed, and what came before is no whole message of this phase.
+  pub record IsCutOff (phase : Phase) : Type 0 where
+    pub came : List ℕ
+    pub went : Went left left' came
+    pub none : BeginsNoMessage phase came
+    pub count : Rose faults faults'
+
+  -- No message of this phase came: nothing comes any more; what came is none; or the source failed in it.
+  abbrev pub NoneCame : Phase → Status → Type 0
+  NoneCame phase statuses.Done = EndsAfter left left' faults faults' []
+  NoneCame phase statuses.Script = IsNoMessage phase
+  NoneCame phase statuses.SourceFault = IsCutOff phase
+  NoneCame phase status = ⊥
+
+  -- Taking a message of this phase: it came whole, or none did.
+  abbrev pub TakeRule : {X : Type 0} → (whole : X → Type 0) → Phase → Result X Status → Type 0
+  TakeRule whole phase (Ok message) = whole message
+  TakeRule whole phase (Err status) = NoneCame phase status
+
+  -- this header came
+  pub record HeaderCame (header : Header) : Type 0 where
+    pub fields : IsHeader header
+    pub went : Went left left' (header_bytes header)
+    pub count : faults' ≡ faults
+
+  -- The data that follow this header: they came, and those of a write are in the room; or fewer came.
+  abbrev pub DataRule : Header → NbdOperation → (room : List ℕ) → Result (Unit {0}) Status → Type 0
+  DataRule header operation room result = (payload : List ℕ)
+      × MoreRule left left' faults faults' (data_after header) payload result × HoldsData operation payload room
+
+  -- A request to a disc of so many bytes came whole, and this is what it asks. The room does for its data.
+  pub record RequestCame (size : ℕ) (room : List ℕ) (incoming : Incoming) : Type 0 where
+    pub request : Request
+    pub whole : IsRequest request
+    pub went : Went left left' (request_bytes request)
+    pub count : faults' ≡ faults
+    pub cookie_is : incoming.cookie ≡ request.header.cookie
+    pub operation_is : incoming.operation ≡ request_asks size request.header
+    pub fits : Fits incoming.operation room
+    pub commands : commands_of incoming.operation room ≡ commands_of incoming.operation request.payload

@@ -1,0 +1,116 @@
+//! The requests of a client, each answered before the next one is taken.
+ghost use Rattle.std.specs.Prelude.{◌≡◌, ℕ, ◌+◌, ◌*◌, ◌<◌, ◌^◌, List};
+ghost use Rattle.ram_text.specs.declared.script.Line.{Line};
+ghost use Rattle.ram_outside.specs.Conversation.{AsksOnly};
+ghost use Rattle.ram_receive.specs.Receiving.{HasWritten};
+ghost use Rattle.ram_machine.specs.States.{Served, Disc};
+ghost use Rattle.ram_machine.specs.Inserted.{Stands, faults_of};
+ghost use Rattle.ram_script.specs.Progress.{Beginning};
+ghost use Rattle.ram_transmission.specs.Requests.{Fits};
+ghost use Rattle.ram_serve.specs.Rooms.{HasRoom};
+ghost use Rattle.ram_serve.specs.Turns.{Between, TurnsTo, ReplyRule, ReplyCount, AnswerRule, TurnCounts, counts_now};
+
+use crate::incoming::{Incoming, take_request};
+use crate::messages::tell;
+use crate::rooms::MessageRooms;
+use model_nbd::NbdOperation;
+use ram_machine::status::Status;
+use ram_machine::{Drive, Inserted};
+use ram_outside::Conversation;
+use ram_script::status_of;
+use ram_transmission::answer_request;
+
+/// Takes the next request of a client to a disc of `size` bytes, does it and tells its reply.
+///
+/// # Clauses
+///
+/// - `turn` (`TurnsTo`): from what stands between two requests: the request is answered; or how the session ends.
+/// - `counts` (`TurnCounts`): the count that tells why the session ends rose, and no other.
+/// - `asks` (`HasWritten`): whenever more was asked for, all was written that had been told before.
+///
+/// # Answers
+///
+/// - `Ok`: the request was answered. (`TurnsTo`)
+/// - `Err`: the session ends. (`TurnsTo`)
+/// - `Done`: the client left, or nothing comes any more. (`TurnsTo`)
+/// - `Script`: what came begins no request, or ends within one. (`TurnsTo`)
+/// - `ImageFault`: the image failed in a command of the request, which has no reply. (`TurnsTo`)
+/// - `SourceFault`: the source counted a failure before a request was whole. (`TurnsTo`)
+/// - `SinkFault`: the sink counted a failure within the reply. (`TurnsTo`)
+/// - `Differs`, `Usage`, `NoMemory`, `NotADisc`: never. (`TurnsTo`)
+pub fn serve_request<D: Drive, T: Conversation>(
+    inserted: &mut Inserted<D>,
+    size: u64,
+    talk: &mut T,
+    rooms: &mut MessageRooms,
+) -> Result<(), Status>
+    requires few { size < 2048 * 2 ^ 32 }
+    requires room { HasRoom rooms.old }
+    ensures turn { (first : Beginning) (faults : List Line) (n : ℕ)
+        → Between first faults size n (Stands D.Caching D.lies_in D.Image.Image inserted.old)
+        (T.left talk.old) (T.Sink.Sink.written (T.report talk.old))
+        → TurnsTo first faults size (n + 1) (Stands D.Caching D.lies_in D.Image.Image inserted.new)
+        (T.left talk.new) (T.Sink.Sink.written (T.report talk.new)) result }
+    ensures counts { TurnCounts
+        (counts_now T.Conversation T.Sink.Sink talk.old (faults_of D.Caching D.Image.Image inserted.old))
+        (counts_now T.Conversation T.Sink.Sink talk.new (faults_of D.Caching D.Image.Image inserted.new)) result }
+    ensures asks { AsksOnly (HasWritten (T.Sink.Sink.written (T.report talk.old))) (T.asked talk.old) (T.asked talk.new) }
+    ensures room { HasRoom rooms.new }
+{
+    match take_request(talk, size, &mut rooms.message) {
+        Ok(incoming) => answer_incoming(inserted, incoming, talk, rooms),
+        Err(status) => Err(status),
+    }
+}
+
+/// Does a request that came, and tells its reply.
+fn answer_incoming<D: Drive, T: Conversation>(
+    inserted: &mut Inserted<D>,
+    incoming: Incoming,
+    talk: &mut T,
+    rooms: &mut MessageRooms,
+) -> Result<(), Status>
+    requires fits { Fits incoming.operation rooms.old.message.items }
+    requires room { HasRoom rooms.old }
+    ensures rule { (s : Served) → Stands D.Caching D.lies_in D.Image.Image inserted.old (Disc s)
+        → AnswerRule (Stands D.Caching D.lies_in D.Image.Image inserted.new)
+        (T.Sink.Sink.written (T.report talk.old)) (T.Sink.Sink.written (T.report talk.new))
+        s incoming.operation rooms.old.message.items incoming.cookie result }
+    ensures counts { TurnCounts
+        (counts_now T.Conversation T.Sink.Sink talk.old (faults_of D.Caching D.Image.Image inserted.old))
+        (counts_now T.Conversation T.Sink.Sink talk.new (faults_of D.Caching D.Image.Image inserted.new)) result }
+    ensures same_left { T.left talk.new ≡ T.left talk.old }
+    ensures same_asked { T.asked talk.new ≡ T.asked talk.old }
+    ensures room { HasRoom rooms.new }
+{
+    let Incoming { cookie, operation } = incoming;
+    match answer_request(
+        inserted,
+        operation,
+        cookie,
+        &mut rooms.message,
+        &mut rooms.data_in,
+    ) {
+        Ok(()) => tell_reply(talk, operation, rooms.message.as_slice()),
+        Err(stopped) => Err(status_of(Err(stopped))),
+    }
+}
+
+/// Tells the reply to a request that was done, unless the client leaves.
+fn tell_reply<T: Conversation>(
+    talk: &mut T,
+    operation: NbdOperation,
+    reply: &[u8],
+) -> Result<(), Status>
+    ensures rule { ReplyRule (T.Sink.Sink.written (T.report talk.old)) (T.Sink.Sink.written (T.report talk.new))
+        operation reply.now result }
+    ensures count { ReplyCount (T.Sink.Sink.faults (T.report talk.old)) (T.Sink.Sink.faults (T.report talk.new)) result }
+    ensures same_left { T.left talk.new ≡ T.left talk.old }
+    ensures same_faults { T.faults talk.new ≡ T.faults talk.old }
+    ensures same_asked { T.asked talk.new ≡ T.asked talk.old }
+{
+    match operation {
+        NbdOperation::Disconnect => Err(Status::Done),
+        _ => tell(talk, reply),
+    }
+}
