@@ -265,11 +265,11 @@ answered_so after written written' s operation payload cookie reply shown same d
     by_result (Err statuses.NoMemory) told = absurd told
     by_result (Err statuses.NotADisc) told = absurd told
 
--- a session that ends, after any more messages
-pub ends_still : (first : Beginning) (faults : List Line) (size n m : ℕ) (stands : State → Type 0) (left written : Option (List ℕ))
-    (status : Status) → TurnsTo first faults size n stands left written (Err status)
-    → TurnsTo first faults size m stands left written (Err status)
-ends_still first faults size n m stands left written status ends = ends
+-- the same number of messages
+pub between_as : (first : Beginning) (faults : List Line) (size n m : ℕ) (stands : State → Type 0) (left written : Option (List ℕ))
+    → n ≡ m → Between first faults size n stands left written → Between first faults size m stands left written
+between_as first faults size n m stands left written same between =
+    subst (λ (k : ℕ). Between first faults size k stands left written) same between
 
 -- whenever more was asked for in a request, all was told
 pub asks_told : (first : Beginning) (faults : List Line) (size n : ℕ) (stands : State → Type 0) (left written : Option (List ℕ))

@@ -7,8 +7,9 @@ ghost use Rattle.ram_machine.specs.States.{Served, Disc};
 ghost use Rattle.ram_machine.specs.Inserted.{Stands, faults_of};
 ghost use Rattle.ram_script.specs.Progress.{Beginning};
 ghost use Rattle.ram_transmission.specs.Requests.{Fits};
+ghost use Rattle.ram_serve.specs.declared.transmission.TheConstants.{MOST_REQUESTS};
 ghost use Rattle.ram_serve.specs.Rooms.{HasRoom};
-ghost use Rattle.ram_serve.specs.Turns.{Between, TurnsTo, ReplyRule, ReplyCount, AnswerRule, TurnCounts, counts_now};
+ghost use Rattle.ram_serve.specs.Turns.{Between, TurnsTo, IsToldBy, ReplyRule, ReplyCount, AnswerRule, TurnCounts, counts_now};
 
 use crate::incoming::{Incoming, take_request};
 use crate::messages::tell;
@@ -19,6 +20,56 @@ use ram_machine::{Drive, Inserted};
 use ram_outside::Conversation;
 use ram_script::status_of;
 use ram_transmission::answer_request;
+
+/// How many requests a session has at most.
+pub const MOST_REQUESTS: u64 = u64::MAX;
+
+/// Answers the requests of a client to a disc of `size` bytes, one after another, until the session ends.
+///
+/// # Clauses
+///
+/// - `turn` (`TurnsTo`): from what stands between two requests: how the session ends; or `MOST_REQUESTS` more were answered.
+/// - `counts` (`TurnCounts`): the count that tells why the session ends rose, and no other.
+/// - `asks` (`IsToldBy`): whenever more was asked for, the replies to all messages that had come were written.
+///
+/// # Answers
+///
+/// - `Ok`: as many requests as a session has at most were answered. (`TurnsTo`)
+/// - `Err`: the session ends. (`TurnsTo`)
+/// - `Done`, `Script`, `ImageFault`, `SourceFault`, `SinkFault`, `Differs`, `Usage`, `NoMemory`, `NotADisc`: as for `serve_request`.
+///   (`TurnsTo`)
+pub fn serve_requests<D: Drive, T: Conversation>(
+    inserted: &mut Inserted<D>,
+    size: u64,
+    talk: &mut T,
+    rooms: &mut MessageRooms,
+) -> Result<(), Status>
+    requires few { size < 2048 * 2 ^ 32 }
+    requires room { HasRoom rooms.old }
+    ensures turn { (first : Beginning) (faults : List Line) (n : ℕ)
+        → Between first faults size n (Stands D.Caching D.lies_in D.Image.Image inserted.old)
+        (T.left talk.old) (T.Sink.Sink.written (T.report talk.old))
+        → TurnsTo first faults size (n + MOST_REQUESTS) (Stands D.Caching D.lies_in D.Image.Image inserted.new)
+        (T.left talk.new) (T.Sink.Sink.written (T.report talk.new)) result }
+    ensures counts { TurnCounts
+        (counts_now T.Conversation T.Sink.Sink talk.old (faults_of D.Caching D.Image.Image inserted.old))
+        (counts_now T.Conversation T.Sink.Sink talk.new (faults_of D.Caching D.Image.Image inserted.new)) result }
+    ensures asks { (first : Beginning) (faults : List Line) (n : ℕ)
+        → Between first faults size n (Stands D.Caching D.lies_in D.Image.Image inserted.old)
+        (T.left talk.old) (T.Sink.Sink.written (T.report talk.old))
+        → AsksOnly (IsToldBy first faults) (T.asked talk.old) (T.asked talk.new) }
+    ensures room { HasRoom rooms.new }
+{
+    let mut answered: u64 = 0;
+    while answered < MOST_REQUESTS {
+        match serve_request(inserted, size, talk, rooms) {
+            Ok(()) => {}
+            Err(status) => return Err(status),
+        }
+        answered += 1;
+    }
+    Ok(())
+}
 
 /// Takes the next request of a client to a disc of `size` bytes, does it and tells its reply.
 ///
