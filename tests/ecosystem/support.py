@@ -1,7 +1,6 @@
 """What the tests of the tools share: the program, its tools, a served drive, and a folder for each test."""
 from __future__ import annotations
 
-import fcntl
 import os
 import random
 import shutil
@@ -17,6 +16,7 @@ from pathlib import Path
 from typing import Any, Callable
 
 from dvdram.control import exchange
+from dvdram.prepare import lock
 
 ROOT = Path(__file__).resolve().parents[2]
 TOOLS = ROOT / "tools"
@@ -119,9 +119,9 @@ def wait_until(holds: Callable[[], bool], what: str) -> None:
 def is_free(image: str | Path) -> bool:
     """Whether no drive has locked this image. One that serves a single command may live on for a while after
     it."""
-    with open(image, "rb") as file:
+    with open(image, "rb+") as file:
         try:
-            fcntl.flock(file, fcntl.LOCK_SH | fcntl.LOCK_NB)
+            lock(file.fileno())
         except BlockingIOError:
             return False
     return True

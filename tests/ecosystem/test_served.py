@@ -161,6 +161,16 @@ class Served(FolderTest):
             self.assertTrue(refusal("image=disc.img").endswith("disc.img is in use by another drive"))
 
     @needs(*NBD)
+    def test_an_image_in_use(self) -> None:
+        """An image that the program runs over is not served."""
+        with subprocess.Popen([PROGRAM, "run", "disc.img"], stdin=subprocess.PIPE, stdout=subprocess.PIPE,
+                              bufsize=0) as program:
+            assert program.stdin and program.stdout
+            program.stdin.write(b"press 1 1 4\n")
+            self.assertEqual(program.stdout.readline(), b"1 pressed\n")
+            self.assertTrue(refusal("image=disc.img").endswith("disc.img is in use by another drive"))
+
+    @needs(*NBD)
     def test_bad_parameters(self) -> None:
         """Each is told in one line."""
         Path("raw").write_bytes(b"no disc")

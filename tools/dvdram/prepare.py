@@ -6,6 +6,7 @@ import fcntl
 import os
 import re
 from dataclasses import dataclass, fields
+from struct import pack
 
 from . import Ended, NoDisc, Refused, Wrong
 from .disc import Disc, State
@@ -16,6 +17,7 @@ CHOICES = {
     "layout": tuple(kind.value for kind in LayoutKind), "format": ("yes", "no"), "force": ("yes", "no"),
     "poweroff": ("stay", "again", "exit"),
 }
+SET_LOCK = 37  # F_OFD_SETLK, for which Python 3.8 has no name
 
 
 @dataclass
@@ -54,11 +56,19 @@ class Parameters:
         self.control = self.control and os.path.abspath(self.control)
 
 
+def lock(image: int) -> None:
+    """Locks an open image against other servers, as long as this one has it open. The program locks it too
+    while it runs, by flock, which this lock leaves free. Raises `BlockingIOError` where one has locked it."""
+    fcntl.fcntl(image, SET_LOCK, pack("hhqqi", fcntl.F_WRLCK, os.SEEK_SET, 0, 0, 0))
+    fcntl.flock(image, fcntl.LOCK_EX | fcntl.LOCK_NB)
+    fcntl.flock(image, fcntl.LOCK_UN)
+
+
 def open_image(words: Parameters) -> int:
     """Opens the image and locks it. It is made, empty, where a disc is to be pressed into it."""
     try:
         image = os.open(words.image, os.O_RDWR | os.O_CLOEXEC | (os.O_CREAT if words.press else 0), 0o666)
-        fcntl.flock(image, fcntl.LOCK_EX | fcntl.LOCK_NB)
+        lock(image)
     except FileNotFoundError:
         raise Wrong(f"image={words.image} is not there: press=ZONES,SCALE,SPARES makes it") from None
     except BlockingIOError:
