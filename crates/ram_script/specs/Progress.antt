@@ -160,16 +160,16 @@ IsOffered {first} far refused =
     IfSome refused (λ offered. length (first.report ++ report_text far.events) ≤ offered + (length (newest_text far.events) - 1))
 
 -- where the sink failed, it was offered the answers
-abbrev pub IsRefused : {first : Beginning} → SoFar first → View → Ending → Type 0
-IsRefused far view (Err stopped.SinkFault) = IsOffered far view.refused
-IsRefused far view _ = Unit {0}
+abbrev pub SinkRefusal : {first : Beginning} → SoFar first → View → Ending → Type 0
+SinkRefusal far view (Err stopped.SinkFault) = IsOffered far view.refused
+SinkRefusal far view _ = Unit {0}
 
 -- The answers so far are due and counted, and where the lines stop between two of them the last line says why.
 pub record IsStoppedAt {first : Beginning} (far : SoFar first) (view : View) (ending : Ending) : Type 0 where
   pub due_is : IsDue far view.due
   pub last_is : IsLastIfAny far (last_line view.tally ending)
   pub unended : IsUnended far view ending
-  pub offered : IsRefused far view ending
+  pub offered : SinkRefusal far view ending
   pub tallied : IsTallied far view.tally
 
 -- why the search for the next line may stop the run

@@ -18,12 +18,12 @@ use Rattle.ram_script.specs.Progress.{Beginning}
 use Rattle.ram_session.specs.Doing.{Doing, AreDone, reply_to}
 use Rattle.ram_session.specs.Talk.{Phase, Transmission, Asks, Turned, FollowsBy, BeginsNoMessage, IsRequestAnswered, phase_asked, sent_in, told_in}
 use Rattle.ram_session.specs.Opening.{export_after}
-use Rattle.ram_session.specs.Session.{SoFar, IsLeftAt, TalkEnds}
+use Rattle.ram_session.specs.Session.{SessionSoFar, IsLeftAt, TalkEnds}
 use Rattle.ram_transmission.specs.Chains.{ChainFails}
 use Rattle.ram_transmission.specs.Requests.{RequestDone}
 use Rattle.ram_serve.specs.declared.incoming.Incoming.{Incoming}
 use Rattle.ram_serve.specs.Taking.{NoneCame, RequestCame}
-use Rattle.ram_serve.specs.Turns.{Between, IsToldBy, TurnsTo, ReplyRule, AnswerRule}
+use Rattle.ram_serve.specs.Turns.{BetweenRequests, IsToldBy, RequestsLeadTo, ReplyRule, AnswerRule}
 use Rattle.ram_serve.proofs.Requested.{at_end}
 
 -- what is left behind these bytes
@@ -48,7 +48,7 @@ behind (Some xs) (Some ys) came rest is went = record { behind = ys; left_is = r
     same_in xs ys same = cc
 
 module _ (first : Beginning) (faults : List Line) (size n : ℕ) (stands : State → Type 0)
-    (left left' written : Option (List ℕ)) (b : Between first faults size n stands left written) where
+    (left left' written : Option (List ℕ)) (b : BetweenRequests first faults size n stands left written) where
   -- after these bytes
   at_behind : (came : List ℕ) → IsBehind left' came b.far.rest → IsLeftAt b.far stands left' written came
   at_behind came k = record {
@@ -96,7 +96,7 @@ module _ (first : Beginning) (faults : List Line) (size n : ℕ) (stands : State
 
 -- a request came
 module _ (first : Beginning) (faults : List Line) (size n : ℕ) (stands stands' : State → Type 0)
-    (left left' written written' : Option (List ℕ)) (b : Between first faults size n stands left written) (f f' : ℕ) (room : List ℕ)
+    (left left' written written' : Option (List ℕ)) (b : BetweenRequests first faults size n stands left written) (f f' : ℕ) (room : List ℕ)
     (incoming : Incoming) (came : RequestCame left left' f f' size room incoming) where
   same_asked : commands_of incoming.operation room ≡ commands_of (request_asks size came.request.header) came.request.payload
   same_asked = came.commands ∙ ap (λ (o : NbdOperation). commands_of o came.request.payload) came.operation_is
@@ -128,7 +128,7 @@ module _ (first : Beginning) (faults : List Line) (size n : ℕ) (stands stands'
         subst (λ (p : Phase). FollowsBy p (Asks came.request) (export_after b.far.opened.steps) done.dids reply next_phase) (sym b.transmits)
         (subst (λ (e : Export). FollowsBy Transmission (Asks came.request) e done.dids reply next_phase) (sym b.serves) answered)
 
-    abbrev next : SoFar first faults
+    abbrev next : SessionSoFar first faults
     next = record {
       opened = b.far.opened;
       turns = turn ∷ b.far.turns;
@@ -151,7 +151,7 @@ module _ (first : Beginning) (faults : List Line) (size n : ℕ) (stands stands'
     }
 
     told_then : (result : Result (Unit {0}) Status) → ReplyRule written written' incoming.operation reply result
-        → TurnsTo first faults size (n + 1) stands' left' written' result
+        → RequestsLeadTo first faults size (n + 1) stands' left' written' result
     told_then (Ok ok) rule = record {
       far = next;
       serves = b.serves;
@@ -222,7 +222,7 @@ module _ (first : Beginning) (faults : List Line) (size n : ℕ) (stands stands'
   -- it was done, or not
   pub answered_then : (result : Result (Unit {0}) Status)
       → AnswerRule stands' written written' b.disc incoming.operation room incoming.cookie result
-      → TurnsTo first faults size (n + 1) stands' left' written' result
+      → RequestsLeadTo first faults size (n + 1) stands' left' written' result
   answered_then (Ok ok) rule = told_then rule.reply rule.done (Ok ok) rule.told
   answered_then (Err statuses.Done) rule = told_then rule.reply rule.done (Err statuses.Done) rule.told
   answered_then (Err statuses.SinkFault) rule = told_then rule.reply rule.done (Err statuses.SinkFault) rule.told
@@ -237,9 +237,9 @@ module _ (first : Beginning) (faults : List Line) (size n : ℕ) (stands stands'
   -- the same, where the reply was told of a sink and a source that are as they were
   pub request_served : (shown left'' : Option (List ℕ)) → shown ≡ written → left'' ≡ left' → (result : Result (Unit {0}) Status)
       → ((s : Served) → stands (Disc s) → AnswerRule stands' shown written' s incoming.operation room incoming.cookie result)
-      → TurnsTo first faults size (n + 1) stands' left'' written' result
+      → RequestsLeadTo first faults size (n + 1) stands' left'' written' result
   request_served shown left'' same_shown same_left result rule =
-      subst (λ (o : Option (List ℕ)). TurnsTo first faults size (n + 1) stands' o written' result) (sym same_left)
+      subst (λ (o : Option (List ℕ)). RequestsLeadTo first faults size (n + 1) stands' o written' result) (sym same_left)
       (answered_then result
       (subst (λ (o : Option (List ℕ)). AnswerRule stands' o written' b.disc incoming.operation room incoming.cookie result) same_shown
       (rule b.disc (subst stands b.disc_is b.at.leaves_now))))
@@ -267,13 +267,13 @@ answered_so after written written' s operation payload cookie reply shown same d
 
 -- the same number of messages
 pub between_as : (first : Beginning) (faults : List Line) (size n m : ℕ) (stands : State → Type 0) (left written : Option (List ℕ))
-    → n ≡ m → Between first faults size n stands left written → Between first faults size m stands left written
+    → n ≡ m → BetweenRequests first faults size n stands left written → BetweenRequests first faults size m stands left written
 between_as first faults size n m stands left written same between =
-    subst (λ (k : ℕ). Between first faults size k stands left written) same between
+    subst (λ (k : ℕ). BetweenRequests first faults size k stands left written) same between
 
 -- whenever more was asked for in a request, all was told
 pub asks_told : (first : Beginning) (faults : List Line) (size n : ℕ) (stands : State → Type 0) (left written : Option (List ℕ))
-    → Between first faults size n stands left written → (a b c : Option (List Asked)) → AsksOnly (IsToldBy first faults) a b
+    → BetweenRequests first faults size n stands left written → (a b c : Option (List Asked)) → AsksOnly (IsToldBy first faults) a b
     → AsksOnly (HasWritten written) b c → AsksOnly (IsToldBy first faults) a c
 asks_told first faults size n stands left written between a b c before asks =
     added_then (IsToldBy first faults) a b c before

@@ -9,11 +9,11 @@ use Rattle.ram_machine.specs.declared.status.Status.{Status}
 use Rattle.ram_machine.specs.declared.status.Status.TheVariants as statuses
 
 -- Telling: all of it is written; or the sink failed in it, once, and a part of it is.
-abbrev pub TellRule : (written written' : Option (List ℕ)) → (faults faults' : ℕ) → List ℕ → Result (Unit {0}) Status → Type 0
-TellRule written written' faults faults' bytes (Ok done) = (written' ≡ append_known written bytes) × (faults' ≡ faults)
-TellRule written written' faults faults' bytes (Err statuses.SinkFault) =
+abbrev pub ToldRule : (written written' : Option (List ℕ)) → (faults faults' : ℕ) → List ℕ → Result (Unit {0}) Status → Type 0
+ToldRule written written' faults faults' bytes (Ok done) = (written' ≡ append_known written bytes) × (faults' ≡ faults)
+ToldRule written written' faults faults' bytes (Err statuses.SinkFault) =
     (n : ℕ) × (n < length bytes) × (written' ≡ append_known written (take n bytes)) × FailsOnce faults faults'
-TellRule written written' faults faults' bytes (Err status) = ⊥
+ToldRule written written' faults faults' bytes (Err status) = ⊥
 
 module _ (left left' : Option (List ℕ)) (faults faults' : ℕ) where
   -- these bytes came, and then no more, as there are none

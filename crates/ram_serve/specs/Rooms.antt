@@ -9,12 +9,12 @@ use Rattle.ram_serve.specs.declared.rooms.SessionRooms.{SessionRooms}
 
 -- There is room for the data of any request and for its reply, for the data of any command, and for the answer to any option. (This
 -- project's own, as all here.)
-pub record HasRoom (rooms : MessageRooms) : Type 0 where
+pub record HasMessageRoom (rooms : MessageRooms) : Type 0 where
   pub message : REQUEST_ROOM ≤ vec_capacity rooms.message
   pub data_in : PAYLOAD_ROOM ≤ vec_capacity rooms.data_in
   pub answer : ANSWER_BYTES ≤ vec_capacity rooms.answer
 
 -- The rooms are for discs with a layout of this kind.
-pub record AreReady (kind : LayoutKind) (rooms : SessionRooms) : Type 0 where
+pub record AreReadyToServe (kind : LayoutKind) (rooms : SessionRooms) : Type 0 where
   pub kind_is : rooms.target.drive.kind ≡ kind
-  pub room : HasRoom rooms.messages
+  pub room : HasMessageRoom rooms.messages

@@ -18,15 +18,15 @@ use Rattle.ram_script.specs.Progress.{Beginning}
 use Rattle.ram_script.specs.RunCounts.{Counts, counts_of, SameCounts}
 use Rattle.ram_session.specs.Talk.{Transmission, phase_asked, told_in}
 use Rattle.ram_session.specs.Opening.{export_after}
-use Rattle.ram_session.specs.Session.{SoFar, IsLeftAt, TalkEnds, SessionCounts}
+use Rattle.ram_session.specs.Session.{SessionSoFar, IsLeftAt, TalkEnds, SessionCounts}
 use Rattle.ram_transmission.specs.Chains.{ChainFails}
 use Rattle.ram_transmission.specs.Requests.{RequestDone}
 
--- Between two requests to a disc of so many bytes, after n messages at least: all that was due was told, and the drive stands for the
+-- BetweenRequests two requests to a disc of so many bytes, after n messages at least: all that was due was told, and the drive stands for the
 -- state that the messages lead to, a disc. (`stands` tells which states the drive stands for.)
-pub record Between (first : Beginning) (faults : List Line) (size n : ℕ) (stands : State → Type 0) (left written : Option (List ℕ)) : Type 0
+pub record BetweenRequests (first : Beginning) (faults : List Line) (size n : ℕ) (stands : State → Type 0) (left written : Option (List ℕ)) : Type 0
   where
-    pub far : SoFar first faults
+    pub far : SessionSoFar first faults
     pub serves : export_after far.opened.steps ≡ Serving size
     pub transmits : far.phase ≡ Transmission
     pub disc : Served
@@ -35,14 +35,14 @@ pub record Between (first : Beginning) (faults : List Line) (size n : ℕ) (stan
     pub at : IsLeftAt far stands left written []
 
 -- What requests make of it, by the answer of the call: they are answered; or the session ends with this status.
-abbrev pub TurnsTo : Beginning → (faults : List Line) → (size n : ℕ) → (stands : State → Type 0) → (left written : Option (List ℕ))
+abbrev pub RequestsLeadTo : Beginning → (faults : List Line) → (size n : ℕ) → (stands : State → Type 0) → (left written : Option (List ℕ))
     → Result (Unit {0}) Status → Type 0
-TurnsTo first faults size n stands left written (Ok done) = Between first faults size n stands left written
-TurnsTo first faults size n stands left written (Err status) = TalkEnds first faults stands left written status
+RequestsLeadTo first faults size n stands left written (Ok done) = BetweenRequests first faults size n stands left written
+RequestsLeadTo first faults size n stands left written (Err status) = TalkEnds first faults stands left written status
 
 -- More was asked for when these messages had come, and all that was due was told. (Nothing is kept back.)
 pub record IsToldBy (first : Beginning) (faults : List Line) (ask : Asked) : Type 0 where
-  pub far : SoFar first faults
+  pub far : SessionSoFar first faults
   pub written_is : ask.written ≡ Some (first.report ++ told_in far.turns)
 
 -- The reply to a request that was done is told, whole or in part; a client that leaves is told nothing.

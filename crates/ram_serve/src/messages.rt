@@ -2,7 +2,7 @@
 ghost use Rattle.std.specs.Prelude.{◌≡◌, ◌<◌, ◌≤◌, length, vec_capacity};
 ghost use Rattle.ram_outside.specs.Conversation.{AsksOnly};
 ghost use Rattle.ram_receive.specs.Receiving.{HasWritten};
-ghost use Rattle.ram_serve.specs.Messages.{TellRule, FirstRule, MoreRule, OverRule};
+ghost use Rattle.ram_serve.specs.Messages.{ToldRule, FirstRule, MoreRule, OverRule};
 
 use ram_machine::status::Status;
 use ram_outside::Conversation;
@@ -13,12 +13,12 @@ use ram_report::hand_over;
 ///
 /// # Answers
 ///
-/// - `Ok`: all of it is written. (`TellRule`)
-/// - `Err`: a part of it is written. (`TellRule`)
-/// - `SinkFault`: the sink counted a failure. (`TellRule`)
-/// - `Done`, `Differs`, `Usage`, `Script`, `ImageFault`, `SourceFault`, `NoMemory`, `NotADisc`: never. (`TellRule`)
+/// - `Ok`: all of it is written. (`ToldRule`)
+/// - `Err`: a part of it is written. (`ToldRule`)
+/// - `SinkFault`: the sink counted a failure. (`ToldRule`)
+/// - `Done`, `Differs`, `Usage`, `Script`, `ImageFault`, `SourceFault`, `NoMemory`, `NotADisc`: never. (`ToldRule`)
 pub fn tell<T: Conversation>(talk: &mut T, bytes: &[u8]) -> Result<(), Status>
-    ensures rule { TellRule (T.Sink.Sink.written (T.report talk.old)) (T.Sink.Sink.written (T.report talk.new))
+    ensures rule { ToldRule (T.Sink.Sink.written (T.report talk.old)) (T.Sink.Sink.written (T.report talk.new))
         (T.Sink.Sink.faults (T.report talk.old)) (T.Sink.Sink.faults (T.report talk.new)) bytes.now result }
     ensures same_left { T.left talk.new ≡ T.left talk.old }
     ensures same_faults { T.faults talk.new ≡ T.faults talk.old }

@@ -1,6 +1,6 @@
 //! The memory of a session. It is taken once, before the image is opened.
 ghost use Rattle.std.specs.Prelude.{◌≡◌, ◌+◌, ◌≤◌, IfOk};
-ghost use Rattle.ram_serve.specs.Rooms.{AreReady};
+ghost use Rattle.ram_serve.specs.Rooms.{AreReadyToServe};
 ghost use Rattle.ram_serve.specs.declared.rooms.TheConstants.{SESSION_MEMORY};
 
 use ram_bytes::{Budget, MemoryRefused};
@@ -42,12 +42,12 @@ impl SessionRooms {
     ///
     /// # Answers
     ///
-    /// - `Ok`: the rooms are for discs with a layout of this kind, and for any message. (`AreReady`)
+    /// - `Ok`: the rooms are for discs with a layout of this kind, and for any message. (`AreReadyToServe`)
     /// - `Err`: the system refused memory that was asked for within the budget. (clause)
     pub fn new(budget: &mut Budget, kind: LayoutKind) -> Result<SessionRooms, MemoryRefused>
         requires free { SESSION_MEMORY ≤ budget.old }
         ensures left { budget.old ≤ budget.new + SESSION_MEMORY }
-        ensures ready { IfOk result (AreReady kind) }
+        ensures ready { IfOk result (AreReadyToServe kind) }
     {
         Ok(SessionRooms {
             target: TargetRooms::new(budget, kind)?,

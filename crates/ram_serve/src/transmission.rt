@@ -8,8 +8,8 @@ ghost use Rattle.ram_machine.specs.Inserted.{Stands, faults_of};
 ghost use Rattle.ram_script.specs.Progress.{Beginning};
 ghost use Rattle.ram_transmission.specs.Requests.{Fits};
 ghost use Rattle.ram_serve.specs.declared.transmission.TheConstants.{MOST_REQUESTS};
-ghost use Rattle.ram_serve.specs.Rooms.{HasRoom};
-ghost use Rattle.ram_serve.specs.Turns.{Between, TurnsTo, IsToldBy, ReplyRule, ReplyCount, AnswerRule, TurnCounts, counts_now};
+ghost use Rattle.ram_serve.specs.Rooms.{HasMessageRoom};
+ghost use Rattle.ram_serve.specs.Turns.{BetweenRequests, RequestsLeadTo, IsToldBy, ReplyRule, ReplyCount, AnswerRule, TurnCounts, counts_now};
 
 use crate::incoming::{Incoming, take_request};
 use crate::messages::tell;
@@ -28,16 +28,16 @@ pub const MOST_REQUESTS: u64 = u64::MAX;
 ///
 /// # Clauses
 ///
-/// - `turn` (`TurnsTo`): from what stands between two requests: how the session ends; or `MOST_REQUESTS` more were answered.
+/// - `turn` (`RequestsLeadTo`): from what stands between two requests: how the session ends; or `MOST_REQUESTS` more were answered.
 /// - `counts` (`TurnCounts`): the count that tells why the session ends rose, and no other.
 /// - `asks` (`IsToldBy`): whenever more was asked for, the replies to all messages that had come were written.
 ///
 /// # Answers
 ///
-/// - `Ok`: as many requests as a session has at most were answered. (`TurnsTo`)
-/// - `Err`: the session ends. (`TurnsTo`)
+/// - `Ok`: as many requests as a session has at most were answered. (`RequestsLeadTo`)
+/// - `Err`: the session ends. (`RequestsLeadTo`)
 /// - `Done`, `Script`, `ImageFault`, `SourceFault`, `SinkFault`, `Differs`, `Usage`, `NoMemory`, `NotADisc`: as for `serve_request`.
-///   (`TurnsTo`)
+///   (`RequestsLeadTo`)
 pub fn serve_requests<D: Drive, T: Conversation>(
     inserted: &mut Inserted<D>,
     size: u64,
@@ -45,20 +45,20 @@ pub fn serve_requests<D: Drive, T: Conversation>(
     rooms: &mut MessageRooms,
 ) -> Result<(), Status>
     requires few { size < 2048 * 2 ^ 32 }
-    requires room { HasRoom rooms.old }
+    requires room { HasMessageRoom rooms.old }
     ensures turn { (first : Beginning) (faults : List Line) (n : ℕ)
-        → Between first faults size n (Stands D.Caching D.lies_in D.Image.Image inserted.old)
+        → BetweenRequests first faults size n (Stands D.Caching D.lies_in D.Image.Image inserted.old)
         (T.left talk.old) (T.Sink.Sink.written (T.report talk.old))
-        → TurnsTo first faults size (n + MOST_REQUESTS) (Stands D.Caching D.lies_in D.Image.Image inserted.new)
+        → RequestsLeadTo first faults size (n + MOST_REQUESTS) (Stands D.Caching D.lies_in D.Image.Image inserted.new)
         (T.left talk.new) (T.Sink.Sink.written (T.report talk.new)) result }
     ensures counts { TurnCounts
         (counts_now T.Conversation T.Sink.Sink talk.old (faults_of D.Caching D.Image.Image inserted.old))
         (counts_now T.Conversation T.Sink.Sink talk.new (faults_of D.Caching D.Image.Image inserted.new)) result }
     ensures asks { (first : Beginning) (faults : List Line) (n : ℕ)
-        → Between first faults size n (Stands D.Caching D.lies_in D.Image.Image inserted.old)
+        → BetweenRequests first faults size n (Stands D.Caching D.lies_in D.Image.Image inserted.old)
         (T.left talk.old) (T.Sink.Sink.written (T.report talk.old))
         → AsksOnly (IsToldBy first faults) (T.asked talk.old) (T.asked talk.new) }
-    ensures room { HasRoom rooms.new }
+    ensures room { HasMessageRoom rooms.new }
 {
     let mut answered: u64 = 0;
     while answered < MOST_REQUESTS {
@@ -75,20 +75,20 @@ pub fn serve_requests<D: Drive, T: Conversation>(
 ///
 /// # Clauses
 ///
-/// - `turn` (`TurnsTo`): from what stands between two requests: the request is answered; or how the session ends.
+/// - `turn` (`RequestsLeadTo`): from what stands between two requests: the request is answered; or how the session ends.
 /// - `counts` (`TurnCounts`): the count that tells why the session ends rose, and no other.
 /// - `asks` (`HasWritten`): whenever more was asked for, all was written that had been told before.
 ///
 /// # Answers
 ///
-/// - `Ok`: the request was answered. (`TurnsTo`)
-/// - `Err`: the session ends. (`TurnsTo`)
-/// - `Done`: the client left, or nothing comes any more. (`TurnsTo`)
-/// - `Script`: what came begins no request, or ends within one. (`TurnsTo`)
-/// - `ImageFault`: the image failed in a command of the request, which has no reply. (`TurnsTo`)
-/// - `SourceFault`: the source counted a failure before a request was whole. (`TurnsTo`)
-/// - `SinkFault`: the sink counted a failure within the reply. (`TurnsTo`)
-/// - `Differs`, `Usage`, `NoMemory`, `NotADisc`: never. (`TurnsTo`)
+/// - `Ok`: the request was answered. (`RequestsLeadTo`)
+/// - `Err`: the session ends. (`RequestsLeadTo`)
+/// - `Done`: the client left, or nothing comes any more. (`RequestsLeadTo`)
+/// - `Script`: what came begins no request, or ends within one. (`RequestsLeadTo`)
+/// - `ImageFault`: the image failed in a command of the request, which has no reply. (`RequestsLeadTo`)
+/// - `SourceFault`: the source counted a failure before a request was whole. (`RequestsLeadTo`)
+/// - `SinkFault`: the sink counted a failure within the reply. (`RequestsLeadTo`)
+/// - `Differs`, `Usage`, `NoMemory`, `NotADisc`: never. (`RequestsLeadTo`)
 pub fn serve_request<D: Drive, T: Conversation>(
     inserted: &mut Inserted<D>,
     size: u64,
@@ -96,17 +96,17 @@ pub fn serve_request<D: Drive, T: Conversation>(
     rooms: &mut MessageRooms,
 ) -> Result<(), Status>
     requires few { size < 2048 * 2 ^ 32 }
-    requires room { HasRoom rooms.old }
+    requires room { HasMessageRoom rooms.old }
     ensures turn { (first : Beginning) (faults : List Line) (n : ℕ)
-        → Between first faults size n (Stands D.Caching D.lies_in D.Image.Image inserted.old)
+        → BetweenRequests first faults size n (Stands D.Caching D.lies_in D.Image.Image inserted.old)
         (T.left talk.old) (T.Sink.Sink.written (T.report talk.old))
-        → TurnsTo first faults size (n + 1) (Stands D.Caching D.lies_in D.Image.Image inserted.new)
+        → RequestsLeadTo first faults size (n + 1) (Stands D.Caching D.lies_in D.Image.Image inserted.new)
         (T.left talk.new) (T.Sink.Sink.written (T.report talk.new)) result }
     ensures counts { TurnCounts
         (counts_now T.Conversation T.Sink.Sink talk.old (faults_of D.Caching D.Image.Image inserted.old))
         (counts_now T.Conversation T.Sink.Sink talk.new (faults_of D.Caching D.Image.Image inserted.new)) result }
     ensures asks { AsksOnly (HasWritten (T.Sink.Sink.written (T.report talk.old))) (T.asked talk.old) (T.asked talk.new) }
-    ensures room { HasRoom rooms.new }
+    ensures room { HasMessageRoom rooms.new }
 {
     match take_request(talk, size, &mut rooms.message) {
         Ok(incoming) => answer_incoming(inserted, incoming, talk, rooms),
@@ -122,7 +122,7 @@ fn answer_incoming<D: Drive, T: Conversation>(
     rooms: &mut MessageRooms,
 ) -> Result<(), Status>
     requires fits { Fits incoming.operation rooms.old.message.items }
-    requires room { HasRoom rooms.old }
+    requires room { HasMessageRoom rooms.old }
     ensures rule { (s : Served) → Stands D.Caching D.lies_in D.Image.Image inserted.old (Disc s)
         → AnswerRule (Stands D.Caching D.lies_in D.Image.Image inserted.new)
         (T.Sink.Sink.written (T.report talk.old)) (T.Sink.Sink.written (T.report talk.new))
@@ -132,7 +132,7 @@ fn answer_incoming<D: Drive, T: Conversation>(
         (counts_now T.Conversation T.Sink.Sink talk.new (faults_of D.Caching D.Image.Image inserted.new)) result }
     ensures same_left { T.left talk.new ≡ T.left talk.old }
     ensures same_asked { T.asked talk.new ≡ T.asked talk.old }
-    ensures room { HasRoom rooms.new }
+    ensures room { HasMessageRoom rooms.new }
 {
     let Incoming { cookie, operation } = incoming;
     match answer_request(

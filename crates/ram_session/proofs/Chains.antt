@@ -9,7 +9,7 @@ use Rattle.ram_script.specs.Progress.{Beginning}
 use Rattle.ram_session.specs.Doing.{Did, Doing, step_of}
 use Rattle.ram_session.specs.Talk.{Phase, Turned, Talk, dids_in}
 use Rattle.ram_session.specs.Opening.{export_after}
-use Rattle.ram_session.specs.Session.{SoFar}
+use Rattle.ram_session.specs.Session.{SessionSoFar}
 
 -- one run after another is a run
 pub run_on : (first mid last : State) (before after : List AnsweredStep) → Run first before mid → Run mid after last → Run first (after ++ before) last
@@ -26,7 +26,7 @@ talk_runs export first last [] phase talk = talk.0
 talk_runs export first last (turned ∷ before) phase talk =
     doing_on first (talk.0) last (dids_in before) turned.dids (talk_runs export first (talk.0) before (talk.1) talk.2) talk.3
 
-pub session_runs : (first : Beginning) (faults : List Line) (far : SoFar first faults) → Run far.opened.start (map step_of (dids_in far.turns) ++ far.opened.steps) far.now
+pub session_runs : (first : Beginning) (faults : List Line) (far : SessionSoFar first faults) → Run far.opened.start (map step_of (dids_in far.turns) ++ far.opened.steps) far.now
 session_runs first faults far =
     run_on far.opened.start far.opened.ready far.now far.opened.steps (map step_of (dids_in far.turns)) far.opened.run
     (talk_runs (export_after far.opened.steps) far.opened.ready far.now far.turns far.phase far.talk)

@@ -38,13 +38,13 @@ commands_in [] = []
 commands_in (did ∷ before) = commands_in before ++ did.command ∷ []
 
 -- each of them was good
-abbrev pub AreGood : List Did → Type 0
-AreGood [] = Unit {0}
-AreGood (did ∷ before) = (did.answer ≡ answers.Good) × AreGood before
+abbrev pub WereGood : List Did → Type 0
+WereGood [] = Unit {0}
+WereGood (did ∷ before) = (did.answer ≡ answers.Good) × WereGood before
 
 -- all of these commands were done, and each was good
 pub record WereAllGood (commands : List Command) (dids : List Did) : Type 0 where
-  pub good : AreGood dids
+  pub good : WereGood dids
   pub all_done : commands ≡ commands_in dids
 
 -- these commands were done up to the first that was not good
@@ -52,7 +52,7 @@ pub record StoppedAtOne (commands : List Command) (dids : List Did) : Type 0 whe
   pub last : Did
   pub before : List Did
   pub dids_are : dids ≡ last ∷ before
-  pub good : AreGood before
+  pub good : WereGood before
   pub not_good : ¬ (last.answer ≡ answers.Good)
   pub undone : List Command
   pub some_done : commands ≡ commands_in (last ∷ before) ++ undone

@@ -69,7 +69,7 @@ AreOpening (Unopened image) faults steps = steps ≡ []
 AreOpening (Disc s) faults steps = (lines_done steps ≡ opening_lines faults) × NoneRefused steps
 
 -- A session was opened: what the image holds, the lines that were done, and the state in which the client is greeted.
-pub record IsOpened (first : Beginning) (faults : List Line) : Type 0 where
+pub record IsSessionOpened (first : Beginning) (faults : List Line) : Type 0 where
   pub start : State
   pub starts : IsFirst first.image start
   pub kind_is : kind_of start ≡ first.kind

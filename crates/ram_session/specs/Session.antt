@@ -18,14 +18,14 @@ use Rattle.ram_machine.specs.LineSteps.{Step}
 use Rattle.ram_script.specs.Progress.{Beginning}
 use Rattle.ram_script.specs.Endings.{Aftermath}
 use Rattle.ram_script.specs.RunCounts.{Counts, SameCounts, OnlySourceRose, OnlySinkRose, OnlyImageRose}
-use Rattle.ram_session.specs.Doing.{Did, Doing, AreGood, commands_in}
+use Rattle.ram_session.specs.Doing.{Did, Doing, WereGood, commands_in}
 use Rattle.ram_session.specs.Talk.{Phase, Transmission, Left, Violation, Turned, Talk, BeginsNoMessage, sent_in, told_in}
-use Rattle.ram_session.specs.Opening.{IsOpened, IsOpenedInPart, RefusesFault, export_after}
+use Rattle.ram_session.specs.Opening.{IsSessionOpened, IsOpenedInPart, RefusesFault, export_after}
 
 -- A session so far: it was opened; the messages that came, the state and the phase that they lead to, and what follows them of what the
 -- client sends.
-pub record SoFar (first : Beginning) (faults : List Line) : Type 0 where
-  pub opened : IsOpened first faults
+pub record SessionSoFar (first : Beginning) (faults : List Line) : Type 0 where
+  pub opened : IsSessionOpened first faults
   pub turns : List Turned
   pub now : State
   pub phase : Phase
@@ -44,7 +44,7 @@ earlier [] = []
 earlier (turned ∷ before) = told_in before
 
 -- How a session ends, of which so much came: what is left to come, what is written, and which states may be left.
-module _ {first : Beginning} {faults : List Line} (far : SoFar first faults) (leaves : State → Type 0)
+module _ {first : Beginning} {faults : List Line} (far : SessionSoFar first faults) (leaves : State → Type 0)
     (left written : Option (List ℕ)) where
   -- All that was due was told, and what is left is as the messages leave it. Of what follows them these bytes came, and no others.
   pub record IsLeftAt (came : List ℕ) : Type 0 where
@@ -87,7 +87,7 @@ module _ {first : Beginning} {faults : List Line} (far : SoFar first faults) (le
     pub rest : List ℕ
     pub comes : far.rest ≡ request_bytes request ++ rest
     pub dids : List Did
-    pub good : AreGood dids
+    pub good : WereGood dids
     pub mid : State
     pub done : Doing far.now dids mid
     pub command : Command
@@ -103,11 +103,11 @@ module _ {first : Beginning} {faults : List Line} (far : SoFar first faults) (le
 -- How a session ends in which a client was greeted, by its status.
 abbrev pub TalkEnds : Beginning → (faults : List Line) → (leaves : State → Type 0) → (left written : Option (List ℕ)) → Status
     → Type 0
-TalkEnds first faults leaves left written statuses.Done = (far : SoFar first faults) × HasEnded far leaves left written
-TalkEnds first faults leaves left written statuses.Script = (far : SoFar first faults) × BreaksProtocol far leaves left written
-TalkEnds first faults leaves left written statuses.SourceFault = (far : SoFar first faults) × IsCutBySource far leaves left written
-TalkEnds first faults leaves left written statuses.SinkFault = (far : SoFar first faults) × IsCutBySink far leaves left written
-TalkEnds first faults leaves left written statuses.ImageFault = (far : SoFar first faults) × IsCutByImage far leaves left written
+TalkEnds first faults leaves left written statuses.Done = (far : SessionSoFar first faults) × HasEnded far leaves left written
+TalkEnds first faults leaves left written statuses.Script = (far : SessionSoFar first faults) × BreaksProtocol far leaves left written
+TalkEnds first faults leaves left written statuses.SourceFault = (far : SessionSoFar first faults) × IsCutBySource far leaves left written
+TalkEnds first faults leaves left written statuses.SinkFault = (far : SessionSoFar first faults) × IsCutBySink far leaves left written
+TalkEnds first faults leaves left written statuses.ImageFault = (far : SessionSoFar first faults) × IsCutByImage far leaves left written
 TalkEnds first faults leaves left written _ = ⊥
 
 -- No client was greeted: nothing came and nothing was told.

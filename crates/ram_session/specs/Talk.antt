@@ -92,15 +92,15 @@ FollowsBy Transmission (Asks request) (Serving size) dids bytes next = IsRequest
 FollowsBy _ _ _ dids bytes next = ⊥
 
 -- the same of a message that came
-abbrev pub Follows : Export → Phase → Turned → Phase → Type 0
-Follows export phase turned next = FollowsBy phase turned.message export turned.dids turned.bytes next
+abbrev pub TurnFollows : Export → Phase → Turned → Phase → Type 0
+TurnFollows export phase turned next = FollowsBy phase turned.message export turned.dids turned.bytes next
 
 -- The messages, the newest first, lead from the state in which the client is greeted to this state and phase.
 abbrev pub Talk : Export → State → List Turned → State → Phase → Type 0
 Talk export first [] last phase = (last ≡ first) × (phase ≡ Greeted)
 Talk export first (turned ∷ before) last phase =
     (mid : State) × (was : Phase) × Talk export first before mid was
-    × Doing mid turned.dids last × Follows export was turned phase
+    × Doing mid turned.dids last × TurnFollows export was turned phase
 
 -- what the client sent
 abbrev pub sent_in : List Turned → List ℕ

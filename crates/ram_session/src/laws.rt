@@ -16,7 +16,7 @@ ghost use Rattle.ram_script.specs.Progress.{Beginning};
 ghost use Rattle.ram_session.specs.Doing.{Doing, step_of};
 ghost use Rattle.ram_session.specs.Talk.{Phase, Turned, Talk, dids_in, sent_in};
 ghost use Rattle.ram_session.specs.Kept.{LeaveByMessages};
-ghost use Rattle.ram_session.specs.Session.{SoFar};
+ghost use Rattle.ram_session.specs.Session.{SessionSoFar};
 
 /// What the messages of a client do is a run of the machine that answers a script; and so is a whole session, with the lines before the
 /// greeting.
@@ -28,7 +28,7 @@ ghost use Rattle.ram_session.specs.Session.{SoFar};
 pub fn a_talk_is_a_run()
     ensures talk { (export : Export) (first last : State) (turns : List Turned) (phase : Phase)
         → Talk export first turns last phase → Doing first (dids_in turns) last }
-    ensures session { (first : Beginning) (faults : List Line) (far : SoFar first faults)
+    ensures session { (first : Beginning) (faults : List Line) (far : SessionSoFar first faults)
         → Run far.opened.start (map step_of (dids_in far.turns) ++ far.opened.steps) far.now }
 {}
 

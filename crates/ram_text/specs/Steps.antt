@@ -47,11 +47,11 @@ pub record Refilled (before after : Reading) (rest rest' : Option (List ℕ)) (f
   pub count : faults' ≡ faults
 
 -- what one more piece of the source brings (this project's own)
-abbrev pub FillRule : Reading → Reading → Option (List ℕ) → Option (List ℕ) → ℕ → ℕ → Take → Type 0
-FillRule before after rest rest' faults faults' (takes.Got n) = Refilled before after rest rest' faults faults' n
-FillRule before after rest rest' faults faults' takes.End =
+abbrev pub FillsReading : Reading → Reading → Option (List ℕ) → Option (List ℕ) → ℕ → ℕ → Take → Type 0
+FillsReading before after rest rest' faults faults' (takes.Got n) = Refilled before after rest rest' faults faults' n
+FillsReading before after rest rest' faults faults' takes.End =
     (after ≡ without_line before) × IsAtEnd rest × (rest' ≡ rest) × (faults' ≡ faults)
-FillRule before after rest rest' faults faults' takes.Failed =
+FillsReading before after rest rest' faults faults' takes.Failed =
     (after ≡ without_line before) × (rest' ≡ rest) × Rose faults faults'
 
 -- what is buffered is the last line, unless nothing is (this project's own)

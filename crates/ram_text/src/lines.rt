@@ -4,7 +4,7 @@ ghost use Rattle.std.specs.Prelude.{◌≡◌, ◌↔◌, ℕ, ◌+◌, ◌-◌,
 ghost use Rattle.ram_outside.specs.Source.{TakeRule};
 ghost use Rattle.ram_outside.specs.Conversation.{AsksNow, AsksOnly, asked_with};
 ghost use Rattle.ram_text.specs.Lines.{Reading, HoldsLine, NextLineRule, HasNoFeed, IsFirstFeed, IsOpenAsk, left_of};
-ghost use Rattle.ram_text.specs.Steps.{IsOpen, CutRule, FillRule, LastLineBytes, PassedFirst};
+ghost use Rattle.ram_text.specs.Steps.{IsOpen, CutRule, FillsReading, LastLineBytes, PassedFirst};
 ghost use Rattle.ram_text.specs.declared.lines.TheConstants.{LINE_LIMIT, SCRIPT_LIMIT, PIECE, ROOM};
 
 use memchr::memchr;
@@ -206,7 +206,7 @@ impl LineReader {
     // Asks for one more piece.
     fn fill<T: Conversation>(&mut self, talk: &mut T) -> Take
         requires { IsOpen self.old }
-        ensures rule { FillRule self.old self.new (T.left talk.old) (T.left talk.new)
+        ensures rule { FillsReading self.old self.new (T.left talk.old) (T.left talk.new)
             (T.faults talk.old) (T.faults talk.new) result }
         ensures asks { AsksNow (asked_with (T.left talk.old) (T.Sink.written (T.report talk.old)))
             (T.asked talk.old) (T.asked talk.new) }

@@ -7,13 +7,13 @@ use Rattle.model_nbd.specs.Commands.{Command, Sectors, parts, parts_before}
 use Rattle.ram_machine.specs.declared.stopped.Stopped.{Stopped}
 use Rattle.ram_machine.specs.declared.stopped.Stopped.TheVariants as stopped
 use Rattle.ram_machine.specs.States.{State, Served, Disc}
-use Rattle.ram_session.specs.Doing.{Did, Doing, AreGood, commands_in, data_from}
+use Rattle.ram_session.specs.Doing.{Did, Doing, WereGood, commands_in, data_from}
 use Rattle.ram_transmission.specs.Chains.{CommandRule, ChainDone, ChainRule, AnyData, GoesBehind}
 
 -- The commands before the rest were all done, and good; `sofar` tells of their data.
 pub record UpTo (sofar : List ℕ → Type 0) (after : State → Type 0) (s : Served) (all rest : List Command) : Type 0 where
   pub dids : List Did
-  pub good : AreGood dids
+  pub good : WereGood dids
   pub now : Served
   pub does : Doing (Disc s) dids (Disc now)
   pub stands : after (Disc now)

@@ -11,7 +11,7 @@ use Rattle.ram_machine.specs.declared.stopped.Stopped.{Stopped}
 use Rattle.ram_machine.specs.declared.stopped.Stopped.TheVariants as stopped
 use Rattle.ram_machine.specs.States.{State, Served, Disc}
 use Rattle.ram_machine.specs.LineSteps.{Step}
-use Rattle.ram_session.specs.Doing.{Did, Doing, AreGood, AreDone, commands_in, data_from}
+use Rattle.ram_session.specs.Doing.{Did, Doing, WereGood, AreDone, commands_in, data_from}
 
 -- the image's count, by what became of a command or of some: it rose exactly where the image failed
 abbrev pub ImageCount : {X : Type 0} → ℕ → ℕ → Result X Stopped → Type 0
@@ -32,7 +32,7 @@ module _ (after : State → Type 0) where
   -- in one of these commands, and those before it were good
   pub record ChainFails (s : Served) (commands : List Command) : Type 0 where
     pub dids : List Did
-    pub good : AreGood dids
+    pub good : WereGood dids
     pub mid : Served
     pub does : Doing (Disc s) dids (Disc mid)
     pub command : Command

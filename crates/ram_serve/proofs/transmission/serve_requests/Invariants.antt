@@ -4,8 +4,8 @@ use Rattle.ram_outside.specs.Conversation.{AsksOnly}
 use Rattle.ram_machine.specs.Inserted.{Stands, faults_of}
 use Rattle.ram_script.specs.Progress.{Beginning}
 use Rattle.ram_script.specs.RunCounts.{SameCounts}
-use Rattle.ram_serve.specs.Rooms.{HasRoom}
-use Rattle.ram_serve.specs.Turns.{Between, IsToldBy, counts_now}
+use Rattle.ram_serve.specs.Rooms.{HasMessageRoom}
+use Rattle.ram_serve.specs.Turns.{BetweenRequests, IsToldBy, counts_now}
 use Rattle.ram_serve.specs.declared.transmission.TheConstants.{MOST_REQUESTS}
 use Rattle.ram_serve.proofs.transmission.serve_requests.Given as goal
 
@@ -13,17 +13,17 @@ abbrev pub invariant-loop-answered : goal.invariant-loop-answered
 invariant-loop-answered g l = record {
   few : l.answered ≤ MOST_REQUESTS;
   between : (first : Beginning) (faults : List Line) (n : ℕ)
-      → Between first faults l.fn.size n (Stands g.D.Caching g.D.Drive.lies_in g.D.Image.Image l.fn.inserted)
+      → BetweenRequests first faults l.fn.size n (Stands g.D.Caching g.D.Drive.lies_in g.D.Image.Image l.fn.inserted)
       (g.T.Conversation.left l.fn.talk) (g.T.Sink.Sink.written (g.T.Conversation.report l.fn.talk))
-      → Between first faults l.fn.size (n + l.answered) (Stands g.D.Caching g.D.Drive.lies_in g.D.Image.Image l.inserted)
+      → BetweenRequests first faults l.fn.size (n + l.answered) (Stands g.D.Caching g.D.Drive.lies_in g.D.Image.Image l.inserted)
       (g.T.Conversation.left l.talk) (g.T.Sink.Sink.written (g.T.Conversation.report l.talk));
   counts : SameCounts (counts_now g.T.Conversation g.T.Sink.Sink l.fn.talk (faults_of g.D.Caching g.D.Image.Image l.fn.inserted))
       (counts_now g.T.Conversation g.T.Sink.Sink l.talk (faults_of g.D.Caching g.D.Image.Image l.inserted));
   asks : (first : Beginning) (faults : List Line) (n : ℕ)
-      → Between first faults l.fn.size n (Stands g.D.Caching g.D.Drive.lies_in g.D.Image.Image l.fn.inserted)
+      → BetweenRequests first faults l.fn.size n (Stands g.D.Caching g.D.Drive.lies_in g.D.Image.Image l.fn.inserted)
       (g.T.Conversation.left l.fn.talk) (g.T.Sink.Sink.written (g.T.Conversation.report l.fn.talk))
       → AsksOnly (IsToldBy first faults) (g.T.Conversation.asked l.fn.talk) (g.T.Conversation.asked l.talk);
-  room : HasRoom l.rooms;
+  room : HasMessageRoom l.rooms;
 }
 
 abbrev pub decreases-loop-answered : goal.decreases-loop-answered
