@@ -1,6 +1,6 @@
 -- A call of a drive with a write cache costs one block at most, and none where it was not stopped.
-use Rattle.std.specs.Prelude.{◌≡◌, ◌≢◌, ℕ, zero, suc, ◌+◌, ◌*◌, ◌⊎◌, Bool, true, false, MatchBool, Option, Some, None, List, [], ◌∷◌, length}
-use Rattle.std.proofs.Common.{refl, sym, ap, ◌∙◌, inl, inr, subst}
+use Rattle.std.specs.Prelude.{◌≡◌, ℕ, zero, suc, ◌+◌, ◌*◌, Bool, true, false, MatchBool, Option, Some, None, List, [], ◌∷◌, length}
+use Rattle.std.proofs.Common.{sym, ap, ◌∙◌, inl, inr, subst}
 use Rattle.model_buffer.specs.Buffer.{bytes_at}
 use Rattle.model_sectors.specs.Requests.{block_with, blocks_covered, is_partly}
 use Rattle.model_sectors.specs.declared.ReadOut.{ReadOut}
@@ -11,7 +11,7 @@ use Rattle.model_drive.specs.declared.WriteOut.TheVariants as writes
 use Rattle.model_drive.specs.Shown.{Shown, IsKnown}
 use Rattle.model_drive.specs.Sound.{IsSound}
 use Rattle.model_drive.specs.Reads.{ReadCause}
-use Rattle.model_drive.specs.Writes.{StopsInWrite, WriteCause, next_block}
+use Rattle.model_drive.specs.Writes.{WriteCause, next_block}
 use Rattle.model_drive.proofs.Kept.{read_kept, write_kept}
 use Rattle.model_costs.specs.Costs.{Lives, IsNotStoppedIn}
 use Rattle.model_costs.proofs.Living.{read_living, write_living, stops_living}
@@ -22,7 +22,7 @@ use Rattle.model_cache.specs.declared.TickOut.TheVariants as ticks
 use Rattle.model_cache.specs.Shown.{CacheShown, dropped, pending_in, pending_covered, goes_into_cache}
 use Rattle.model_cache.specs.Chains.{LeavesSound}
 use Rattle.model_cache.specs.Drains.{IsRefusal, Tries, StopsTrying, DrainCause}
-use Rattle.model_cache.specs.Causes.{ReadsPart, ReadsParts, EndsReading, ReadPartsCause, CacheReadBy, CacheReadCause, DrainsCovered, WritesThrough, StopsWritingThrough, ThroughCauseOf, ThroughCause, leave_first, MakesRoom, ReadsRest, ReadsRests, GoesIntoCache, EndsRest, LacksRestInCache, CachedCauseOf, CachedCause, CacheWriteCause, DrainsAll, SyncCause, TriesOldest, TickCauseOf, TickCause, as_write}
+use Rattle.model_cache.specs.Causes.{ReadsPart, ReadsParts, EndsReading, ReadPartsCause, CacheReadBy, CacheReadCause, DrainsCovered, WritesThrough, StopsWritingThrough, ThroughCauseOf, ThroughCause, leave_first, MakesRoom, ReadsRest, ReadsRests, GoesIntoCache, LacksRestInCache, CachedCauseOf, CachedCause, CacheWriteCause, DrainsAll, SyncCause, TriesOldest, TickCause, as_write}
 use Rattle.model_drains.specs.Costing.{CostsAtMost, is_stopped, is_stopped_tick}
 
 -- what a chain of calls leaves, so that it goes on

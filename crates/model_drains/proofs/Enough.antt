@@ -1,5 +1,5 @@
 -- Where as many pending blocks can leave as have to, they do.
-use Rattle.std.specs.Prelude.{◌≡◌, ◌≢◌, ℕ, zero, suc, ◌+◌, ◌*◌, ◌<◌, ◌≤◌, ◌⊎◌, not, nat_lt, ◌==◌, Bool, true, false, Option, Some, None, List, [], ◌∷◌, length}
+use Rattle.std.specs.Prelude.{◌≡◌, ℕ, zero, suc, ◌+◌, ◌*◌, ◌<◌, ◌≤◌, not, nat_lt, ◌==◌, Bool, true, false, Option, Some, None, List, [], ◌∷◌, length}
 use Rattle.std.specs.List.{Contains, filter}
 use Rattle.std.proofs.Common.{arith, refl, sym, ap, ◌∙◌, inl, inr, subst}
 use Rattle.std.proofs.lemmas.Bool.{not_from_false, ne_eqb, and_from, lt-ltb, le-ltb}
@@ -20,7 +20,7 @@ use Rattle.model_drive.proofs.Ends.{none_stopped}
 use Rattle.model_cache.specs.declared.SyncOut.{SyncOut}
 use Rattle.model_cache.specs.declared.SyncOut.TheVariants as syncs
 use Rattle.model_cache.specs.Values.{IsPending, is_among}
-use Rattle.model_cache.specs.Shown.{CacheShown, dropped, pending_in, pending_but, pending_covered}
+use Rattle.model_cache.specs.Shown.{CacheShown, dropped, pending_in, pending_covered}
 use Rattle.model_cache.specs.Chains.{ReadsDisc}
 use Rattle.model_cache.specs.Drains.{Tries, StopsTrying, DrainCause}
 use Rattle.model_cache.specs.Causes.{leave_first, MakesRoom, ReadsRest, ReadsRests, LacksRestInCache, EndsRest, CachedCauseOf, CachedCause, DrainsAll, SyncCause}
@@ -28,7 +28,7 @@ use Rattle.model_cache.proofs.Members.{Contains-kept, Contains-passed, Contains-
 use Rattle.model_cache.proofs.Held.{none_at}
 use Rattle.model_cache.proofs.Behind.{stays_there}
 use Rattle.model_cache.proofs.FlushedHomes.{one_covered, its_block}
-use Rattle.model_cache.proofs.Completing.{WentOn, Flushed, ended, none_before, none_after, tries_leave}
+use Rattle.model_cache.proofs.Completing.{WentOn, Flushed, ended, none_after, tries_leave}
 use Rattle.model_drains.specs.Leaving.{CannotLeave, CanReadRests}
 use Rattle.model_drains.proofs.Stuck.{enough_leave}
 

@@ -3,6 +3,8 @@ pub mod Enough
 pub mod Living
 pub mod Reading
 pub mod Room
+pub mod Settled
+pub mod Staying
 pub mod Stuck
 pub mod Synchronised
 pub mod Ticking

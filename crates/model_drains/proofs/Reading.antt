@@ -1,5 +1,5 @@
 -- A read of blocks that are pending, or can be read, is good.
-use Rattle.std.specs.Prelude.{◌≡◌, ℕ, zero, suc, ◌+◌, ◌-◌, ◌*◌, ◌<◌, ◌≤◌, ◌⊎◌, Option, Some, None, List, [], ◌∷◌}
+use Rattle.std.specs.Prelude.{◌≡◌, ℕ, zero, suc, ◌+◌, ◌-◌, ◌*◌, ◌<◌, ◌≤◌, Option, Some, None, List, [], ◌∷◌}
 use Rattle.std.proofs.Common.{arith, refl, sym, ap, ◌∙◌, inl, inr, subst}
 use Rattle.model_buffer.specs.Buffer.{bytes_at}
 use Rattle.model_medium.specs.Cells.{IsGood, cell_at}
@@ -8,7 +8,7 @@ use Rattle.model_sectors.specs.declared.ReadOut.{ReadOut}
 use Rattle.model_sectors.specs.declared.ReadOut.TheVariants as reads
 use Rattle.model_sectors.proofs.Covering.{block_with_start, covers_some, covered_part}
 use Rattle.model_stops.specs.declared.Stop.TheVariants as stops
-use Rattle.model_drive.specs.Shown.{Shown, IsOn, cells_in, home, home_cell}
+use Rattle.model_drive.specs.Shown.{Shown, IsOn, cells_in, home_cell}
 use Rattle.model_drive.specs.Parts.{IsInRange, NoneCounted}
 use Rattle.model_drive.specs.Reads.{uses_of_read, ReadsAll, MeetsUnread, StopsInRead, ReadCause}
 use Rattle.model_drive.proofs.Ends.{none_stopped}
@@ -16,7 +16,7 @@ use Rattle.model_cache.specs.Shown.{CacheShown, dropped}
 use Rattle.model_cache.specs.Causes.{ReadsPart, ReadsParts, EndsReading, ReadPartsCause, CacheReadBy, CacheReadCause}
 use Rattle.model_cache.proofs.Held.{none_at}
 use Rattle.model_cache.proofs.Completing.{WentOn, ended, none_after}
-use Rattle.model_drains.specs.Leaving.{CanBeRead, CanReadAll}
+use Rattle.model_drains.specs.Leaving.{CanReadAll}
 
 -- a read of the disc of which each home can be read
 module _ (a b : Shown) (lba n : ℕ) (on : IsOn a) (none : NoneCounted a b) (good : (k : ℕ) → k < blocks_covered lba n → IsGood (home_cell b (block_with lba + k))) where

@@ -1,5 +1,5 @@
--- A block that cannot leave stays so while others are tried; one that was tried is out, or cannot leave.
-use Rattle.std.specs.Prelude.{◌≡◌, ◌≢◌, ℕ, zero, suc, ◌+◌, ◌*◌, ◌<◌, ◌≤◌, ◌⊎◌, if◌then◌else◌, true, false, Bool, Option, Some, None, List, [], ◌∷◌, length, slice_index}
+-- A block that cannot leave stays so while others are tried; one that was tried has left, or is pending and cannot leave.
+use Rattle.std.specs.Prelude.{◌≡◌, ◌≢◌, ℕ, zero, suc, ◌+◌, ◌*◌, ◌<◌, ◌≤◌, ◌⊎◌, if◌then◌else◌, true, false, Bool, Option, Some, List, [], ◌∷◌, length, slice_index}
 use Rattle.std.specs.Option.{option_map_or}
 use Rattle.std.specs.List.{Contains, filter}
 use Rattle.std.proofs.Common.{arith, refl, sym, ap, ◌∙◌, inl, inr, subst}
@@ -7,25 +7,27 @@ use Rattle.std.proofs.lemmas.Bool.{cases_eq}
 use Rattle.std.proofs.lemmas.List.Elements.{Contains-get_or}
 use Rattle.model_geometry.specs.Geometry.{Shape, sdl_block, sdl_second_block}
 use Rattle.model_medium.specs.Cells.{Cell, Dead, IsGood, cell_at}
-use Rattle.model_sectors.specs.Requests.{block_with, blocks_covered}
+use Rattle.model_sectors.specs.Requests.{block_with}
 use Rattle.model_lists.specs.Values.{Sdl}
 use Rattle.model_copies.specs.Parts.{SdlIsLost}
 use Rattle.model_places.specs.Places.{Lists, home_of, free_spares}
 use Rattle.model_drive.specs.declared.TheConstants.{LAST_COUNTER}
 use Rattle.model_drive.specs.declared.WriteOut.{WriteOut}
 use Rattle.model_drive.specs.declared.WriteOut.TheVariants as writes
-use Rattle.model_drive.specs.Shown.{Shown, IsKnown, HasLostSdl, block_count, cells_in, home_cell}
+use Rattle.model_drive.specs.Shown.{Shown, IsKnown, block_count, cells_in, home_cell}
 use Rattle.model_drive.specs.Sound.{IsSound}
 use Rattle.model_drive.specs.Course.{Placing, ToHome, ToSpare, IsUsable, free_for, lists_reached, CanTakeCourse, TookCourse, HasCopyOfMoves}
-use Rattle.model_drive.specs.Writes.{EndsWriting, WritesAll, next_block}
-use Rattle.model_cache.specs.Shown.{CacheShown}
+use Rattle.model_drive.specs.Writes.{EndsWriting, WritesAll}
+use Rattle.model_cache.specs.Values.{IsPending}
+use Rattle.model_cache.specs.Shown.{CacheShown, dropped}
 use Rattle.model_cache.specs.Chains.{WritesBack, Flushes}
 use Rattle.model_cache.specs.Drains.{IsRefusal, Refuses, Tries}
 use Rattle.model_cache.proofs.Members.{Contains-none, Contains-cases, Contains-first, Contains-later}
 use Rattle.model_cache.proofs.FlushedHomes.{home_is, one_covered, its_block, flushed_good, flush_leaves, flush_counts, flush_known, flush_inside}
 use Rattle.model_cache.proofs.Spareless.{back_spareless}
-use Rattle.model_cache.proofs.Refusals.{Refused, refuses}
-use Rattle.model_drains.specs.Leaving.{CannotList, CannotLeave, IsOutOrCannotLeave}
+use Rattle.model_cache.proofs.Refusals.{refuses}
+use Rattle.model_drains.specs.Leaving.{CannotList, CannotLeave, HasLeft, HasLeftOrIsHeldBack}
+use Rattle.model_drains.proofs.Staying.{itself_left, other_was, other_stays, behind_was, behind_stays, below_was, below_stays}
 
 -- ---- what a write of one block makes of a list that cannot be updated
 
@@ -140,7 +142,7 @@ module _ (old new : CacheShown) (i : ℕ) (flush : Flushes old new i) (known : I
   pub not_written : ⊥
   not_written = not_taken old.drive.shape (cells_in new.drive) cause.lists (block_with (16 * i)) cause.course (let one = one_covered i in let all = cause.all in omega (arith, one, all)) cause.ends.wrote.can (cause.ends.wrote.took known) (cause.has_copy known) dead_home (why cannot.cause)
 
--- ---- it stays so, and what was tried is out or so
+-- ---- it stays so, and what was tried has left or is so
 
 -- a logical block of the disc that cannot leave
 pub record IsStuck (shown : Shown) (j : ℕ) : Type 0 where
@@ -222,65 +224,93 @@ stays_stuck (i ∷ due) (suc enough) short old new first sound known (inl (mid, 
 stays_stuck (i ∷ due) (suc enough) short old new first sound known (inr (mid, out, told, is, later, first_is)) j stuck =
     stays_stuck due (suc enough) short mid new told is.back.leaves.sound (refusal_known old mid i out is sound known) later j (stuck_refusal old mid i out is sound known j stuck)
 
--- a block of the disc that is out, or stuck
-abbrev pub IsEnded : Shown → ℕ → Type 0
-IsEnded shown j = ((j < block_count shown) × IsGood (home_cell shown j)) ⊎ IsStuck shown j
+-- a block that has left, or is pending and stuck
+abbrev pub IsEnded : CacheShown → ℕ → Type 0
+IsEnded shown j = HasLeft shown j ⊎ (IsPending shown.pending j × IsStuck shown.drive j)
 
-pub ended_out : (shown : Shown) (j : ℕ) → IsEnded shown j → IsOutOrCannotLeave shown j
-ended_out shown j (inl out) = inl out.1
-ended_out shown j (inr stuck) = inr stuck.cannot
+pub ended_so : (shown : CacheShown) (j : ℕ) → IsEnded shown j → HasLeftOrIsHeldBack shown j
+ended_so shown j (inl left) = inl left
+ended_so shown j (inr (waits, stuck)) = inr (record { pending = waits; cannot = stuck.cannot })
 
-ended_flush : (old mid : CacheShown) (i : ℕ) → Flushes old mid i → IsSound old.drive → IsKnown old.drive → (j : ℕ) → IsEnded old.drive j → IsEnded mid.drive j
-ended_flush old mid i flush sound known j (inl (inside, good)) = inl (
-  subst (λ (c : ℕ). j < c) (sym (flush_counts old mid i flush sound)) inside,
-  elim (cases_eq j i) [
-    | inl same ↦ subst (λ (b : ℕ). IsGood (home_cell mid.drive b)) (sym same) (flushed_good old mid i flush sound known)
-    | inr ne ↦ subst IsGood (sym (flush_leaves old mid i flush sound j inside ne)) good
-  ],
-)
-ended_flush old mid i flush sound known j (inr stuck) = inr (stuck_flush old mid i flush sound known j stuck).1
+-- without the pending blocks that the disc has not
+pub dropped_ended : (shown : CacheShown) (j : ℕ) → IsEnded shown j → IsEnded (dropped shown) j
+dropped_ended shown j (inl left) = inl (record {
+  on_disc = left.on_disc;
+  gone = λ waits. left.gone (below_was shown.pending (block_count shown.drive) j waits);
+  whole = left.whole;
+})
+dropped_ended shown j (inr (waits, stuck)) = inr (below_stays shown.pending (block_count shown.drive) j stuck.inside waits, stuck)
 
-ended_refusal : (old mid : CacheShown) (i : ℕ) (out : WriteOut) → Refuses old mid i out → IsSound old.drive → IsKnown old.drive → (j : ℕ) → IsEnded old.drive j → IsEnded mid.drive j
-ended_refusal old mid i out is sound known j (inl (inside, good)) =
-    let r = refuses old mid i out is sound in
-    elim (cases_eq j i) [
-      | inl same ↦ inr (subst (IsStuck mid.drive) (sym same) (refused_stuck old mid i out is sound))
-      | inr ne ↦ inl (subst (λ (c : ℕ). j < c) (sym r.counts) inside, subst IsGood (sym (r.leaves j inside ne)) good)
-    ]
-ended_refusal old mid i out is sound known j (inr stuck) = inr (stuck_refusal old mid i out is sound known j stuck)
+module _ (old mid : CacheShown) (i : ℕ) (flush : Flushes old mid i) (sound : IsSound old.drive) (known : IsKnown old.drive) where
+  flushed_ended : IsEnded mid i
+  flushed_ended = inl (record {
+    on_disc = subst (λ (c : ℕ). i < c) (sym (flush_counts old mid i flush sound)) (flush_inside old mid i flush sound);
+    gone = λ waits. itself_left i old.pending (subst (λ (l : List (ℕ × List ℕ)). IsPending l i) flush.left waits);
+    whole = flushed_good old mid i flush sound known;
+  })
 
-flushed_ended : (old mid : CacheShown) (i : ℕ) → Flushes old mid i → IsSound old.drive → IsKnown old.drive → IsEnded mid.drive i
-flushed_ended old mid i flush sound known = inl (subst (λ (c : ℕ). i < c) (sym (flush_counts old mid i flush sound)) (flush_inside old mid i flush sound), flushed_good old mid i flush sound known)
+  ended_flush : (j : ℕ) → IsEnded old j → IsEnded mid j
+  ended_flush j (inl left) = elim (cases_eq j i) [
+    | inl same ↦ subst (IsEnded mid) (sym same) flushed_ended
+    | inr ne ↦ inl (record {
+        on_disc = subst (λ (c : ℕ). j < c) (sym (flush_counts old mid i flush sound)) left.on_disc;
+        gone = λ waits. left.gone (other_was i old.pending j (subst (λ (l : List (ℕ × List ℕ)). IsPending l j) flush.left waits));
+        whole = subst IsGood (sym (flush_leaves old mid i flush sound j left.on_disc ne)) left.whole;
+      })
+  ]
+  ended_flush j (inr (waits, stuck)) =
+      let later = stuck_flush old mid i flush sound known j stuck in
+      inr (subst (λ (l : List (ℕ × List ℕ)). IsPending l j) (sym flush.left) (other_stays i old.pending j later.0 waits), later.1)
+
+module _ (old mid : CacheShown) (i : ℕ) (out : WriteOut) (is : Refuses old mid i out) (sound : IsSound old.drive) where
+  stays_pending : (j : ℕ) → IsPending old.pending j → IsPending mid.pending j
+  stays_pending j waits = subst (λ (l : List (ℕ × List ℕ)). IsPending l j) (sym is.left) (behind_stays i old.pending j waits)
+
+  refused_ended : IsEnded mid i
+  refused_ended = inr (stays_pending i (is.back.bytes, is.back.was_pending), refused_stuck old mid i out is sound)
+
+  ended_refusal : IsKnown old.drive → (j : ℕ) → IsEnded old j → IsEnded mid j
+  ended_refusal known j (inl left) =
+      let r = refuses old mid i out is sound in
+      inl (record {
+        on_disc = subst (λ (c : ℕ). j < c) (sym r.counts) left.on_disc;
+        gone = λ waits. left.gone (behind_was i old.pending j (subst (λ (l : List (ℕ × List ℕ)). IsPending l j) is.left waits));
+        whole = subst IsGood (sym (r.leaves j left.on_disc apart)) left.whole;
+      })
+    where
+      apart : j ≢ i
+      apart same = left.gone (is.back.bytes, subst (λ (b : ℕ). Contains old.pending (b, is.back.bytes)) (sym same) is.back.was_pending)
+  ended_refusal known j (inr (waits, stuck)) = inr (stays_pending j waits, stuck_refusal old mid i out is sound known j stuck)
 
 pub stays_ended : (due : List ℕ) (enough short : ℕ) (old new : CacheShown) (first : Option WriteOut) → IsSound old.drive → IsKnown old.drive → Tries old due enough new short first
-    → (j : ℕ) → IsEnded old.drive j → IsEnded new.drive j
-stays_ended due zero short old new first sound known tries j ended = subst (λ (s : CacheShown). IsEnded s.drive j) (sym tries.0) ended
-stays_ended [] (suc enough) short old new first sound known tries j ended = subst (λ (s : CacheShown). IsEnded s.drive j) (sym tries.0) ended
+    → (j : ℕ) → IsEnded old j → IsEnded new j
+stays_ended due zero short old new first sound known tries j ended = subst (λ (s : CacheShown). IsEnded s j) (sym tries.0) ended
+stays_ended [] (suc enough) short old new first sound known tries j ended = subst (λ (s : CacheShown). IsEnded s j) (sym tries.0) ended
 stays_ended (i ∷ due) (suc enough) short old new first sound known (inl (mid, flush, later)) j ended =
     stays_ended due enough short mid new first flush.back.leaves.sound (flush_known old mid i flush sound known) later j (ended_flush old mid i flush sound known j ended)
 stays_ended (i ∷ due) (suc enough) short old new first sound known (inr (mid, out, told, is, later, first_is)) j ended =
     stays_ended due (suc enough) short mid new told is.back.leaves.sound (refusal_known old mid i out is sound known) later j (ended_refusal old mid i out is sound known j ended)
 
 pub all_ended : (due : List ℕ) (enough short : ℕ) (old new : CacheShown) (first : Option WriteOut) → length due ≤ enough → IsSound old.drive → IsKnown old.drive
-    → Tries old due enough new short first → (j : ℕ) → Contains due j → IsEnded new.drive j
+    → Tries old due enough new short first → (j : ℕ) → Contains due j → IsEnded new j
 all_ended [] enough short old new first all sound known tries j has = absurd (Contains-none j has)
 all_ended (i ∷ due) zero short old new first all sound known tries j has = absurd (omega (arith, all))
 all_ended (i ∷ due) (suc enough) short old new first all sound known (inl (mid, flush, later)) j has =
     let known' = flush_known old mid i flush sound known in
     elim (Contains-cases i due j has) [
-      | inl same ↦ stays_ended due enough short mid new first flush.back.leaves.sound known' later j (subst (IsEnded mid.drive) same (flushed_ended old mid i flush sound known))
+      | inl same ↦ stays_ended due enough short mid new first flush.back.leaves.sound known' later j (subst (IsEnded mid) same (flushed_ended old mid i flush sound known))
       | inr more ↦ all_ended due enough short mid new first (omega (arith, all)) flush.back.leaves.sound known' later j more
     ]
 all_ended (i ∷ due) (suc enough) short old new first all sound known (inr (mid, out, told, is, later, first_is)) j has =
     let known' = refusal_known old mid i out is sound known in
     elim (Contains-cases i due j has) [
-      | inl same ↦ stays_ended due (suc enough) short mid new told is.back.leaves.sound known' later j (subst (IsEnded mid.drive) same (inr (refused_stuck old mid i out is sound)))
+      | inl same ↦ stays_ended due (suc enough) short mid new told is.back.leaves.sound known' later j (subst (IsEnded mid) same (refused_ended old mid i out is sound))
       | inr more ↦ all_ended due (suc enough) short mid new told (omega (arith, all)) is.back.leaves.sound known' later j more
     ]
 
-pub all_out_or_stuck : (due : List ℕ) (enough short : ℕ) (old new : CacheShown) (first : Option WriteOut) → length due ≤ enough → IsSound old.drive → IsKnown old.drive
-    → Tries old due enough new short first → (j : ℕ) → Contains due j → IsOutOrCannotLeave new.drive j
-all_out_or_stuck due enough short old new first all sound known tries j has = ended_out new.drive j (all_ended due enough short old new first all sound known tries j has)
+pub all_left_or_held : (due : List ℕ) (enough short : ℕ) (old new : CacheShown) (first : Option WriteOut) → length due ≤ enough → IsSound old.drive → IsKnown old.drive
+    → Tries old due enough new short first → (j : ℕ) → Contains due j → HasLeftOrIsHeldBack new j
+all_left_or_held due enough short old new first all sound known tries j has = ended_so new j (all_ended due enough short old new first all sound known tries j has)
 
 -- ---- how many leave
 

@@ -1,7 +1,7 @@
 -- After as many ticks as blocks are pending each of these was tried.
 use Rattle.std.specs.Prelude.{◌≡◌, ◌≢◌, ℕ, zero, suc, ◌==◌, ◌<◌, ◌⊎◌, not, nat_lt, if◌then◌else◌, true, false, Bool, Option, List, [], ◌∷◌, ◌++◌, length}
 use Rattle.std.specs.List.{Contains, filter}
-use Rattle.std.proofs.Common.{arith, refl, sym, ap, ◌∙◌, inl, inr, subst}
+use Rattle.std.proofs.Common.{arith, refl, sym, ◌∙◌, inl, inr, subst}
 use Rattle.std.proofs.lemmas.Bool.{cases_eq, lt-ltb, ltb-true, eq-eqb, ne_eqb, not_from_true, not_from_false}
 use Rattle.model_buffer.specs.Buffer.{numbers_in}
 use Rattle.model_drive.specs.declared.WriteOut.{WriteOut}
@@ -11,14 +11,14 @@ use Rattle.model_drive.specs.Sound.{IsSound}
 use Rattle.model_cache.specs.declared.TickOut.{TickOut}
 use Rattle.model_cache.specs.declared.TickOut.TheVariants as ticks
 use Rattle.model_cache.specs.Shown.{CacheShown, dropped, pending_in, pending_but, pending_below}
-use Rattle.model_cache.specs.Drains.{Tries, DrainCause, put_behind}
+use Rattle.model_cache.specs.Drains.{Tries, put_behind}
 use Rattle.model_cache.specs.Causes.{TriesOldest, TickCause}
 use Rattle.model_cache.proofs.Members.{Contains-none, Contains-cases, Contains-first}
 use Rattle.model_cache.proofs.FlushedHomes.{flush_counts, flush_known}
 use Rattle.model_cache.proofs.Refusals.{refuses}
-use Rattle.model_drains.specs.Leaving.{IsOutOrCannotLeave}
+use Rattle.model_drains.specs.Leaving.{HasLeftOrIsHeldBack}
 use Rattle.model_drains.specs.Ticks.{TickGoesOn, Ticks}
-use Rattle.model_drains.proofs.Stuck.{IsEnded, ended_out, stays_ended, all_ended, refusal_known}
+use Rattle.model_drains.proofs.Stuck.{IsEnded, ended_so, dropped_ended, stays_ended, all_ended, refusal_known}
 
 -- ---- a number among the first n of a list
 
@@ -117,12 +117,12 @@ next_early old new i rest n j ne oldest left inside early =
           (early_append n (pending_but i old.pending) (filter (λ held. held.0 == i) old.pending) j (after_but old.pending i rest n j ne oldest early))
     ])
 
--- it is out, or cannot leave, or one of the next n ticks tries it
+-- it has left, or is held back, or one of the next n ticks tries it
 record IsOnItsWay (n : ℕ) (shown : CacheShown) (j : ℕ) : Type 0 where
   sound : IsSound shown.drive
   known : IsKnown shown.drive
   inside : j < block_count shown.drive
-  way : IsEnded shown.drive j ⊎ IsEarly n (pending_in (dropped shown)) j
+  way : IsEnded shown j ⊎ IsEarly n (pending_in (dropped shown)) j
 
 tick_tries : (old new : CacheShown) (n j : ℕ) (out : WriteOut) (oldest : TriesOldest (dropped old) new out) → WasTried (dropped old) new oldest.block → IsOnItsWay (suc n) old j → IsOnItsWay n new j
 tick_tries old new n j out oldest was on = record {
@@ -130,18 +130,18 @@ tick_tries old new n j out oldest was on = record {
   known = was.known on.known;
   inside = inside;
   way = elim on.way [
-    | inl ended ↦ inl (stays_ended (oldest.block ∷ []) 1 was.short (dropped old) new was.first on.sound on.known was.tried j ended)
+    | inl ended ↦ inl (stays_ended (oldest.block ∷ []) 1 was.short (dropped old) new was.first on.sound on.known was.tried j (dropped_ended old j ended))
     | inr early ↦ by (subst (λ (l : List ℕ). IsEarly (suc n) l j) oldest.oldest early)
   ];
 } where
   inside : j < block_count new.drive
   inside = subst (λ (c : ℕ). j < c) (sym was.counts) on.inside
 
-  tried_now : oldest.block ≡ j → IsEnded new.drive j
-  tried_now same = subst (IsEnded new.drive) same
+  tried_now : oldest.block ≡ j → IsEnded new j
+  tried_now same = subst (IsEnded new) same
       (all_ended (oldest.block ∷ []) 1 was.short (dropped old) new was.first (omega arith) on.sound on.known was.tried oldest.block (Contains-first oldest.block []))
 
-  by : (oldest.block ≡ j) ⊎ IsEarly n oldest.rest j → IsEnded new.drive j ⊎ IsEarly n (pending_in (dropped new)) j
+  by : (oldest.block ≡ j) ⊎ IsEarly n oldest.rest j → IsEnded new j ⊎ IsEarly n (pending_in (dropped new)) j
   by (inl same) = inl (tried_now same)
   by (inr early) = elim (cases_eq j oldest.block) [
     | inl same ↦ inl (tried_now (sym same))
@@ -155,7 +155,7 @@ nothing_early old n j none on = record {
   known = on.known;
   inside = on.inside;
   way = elim on.way [
-    | inl ended ↦ inl ended
+    | inl ended ↦ inl (dropped_ended old j ended)
     | inr early ↦ absurd (subst (λ (l : List (ℕ × List ℕ)). IsEarly (suc n) (numbers_in l) j) none early)
   ];
 }
@@ -172,9 +172,9 @@ one_tick old new n j ticks.Cut oldest goes on = absurd goes
 one_tick old new n j ticks.Off off goes on = absurd goes
 one_tick old new n j ticks.Fault oldest goes on = absurd goes
 
-all_ticks : (n : ℕ) (old new : CacheShown) (j : ℕ) → Ticks old n new → IsOnItsWay n old j → IsOutOrCannotLeave new.drive j
+all_ticks : (n : ℕ) (old new : CacheShown) (j : ℕ) → Ticks old n new → IsOnItsWay n old j → HasLeftOrIsHeldBack new j
 all_ticks zero old new j same on = elim on.way [
-  | inl ended ↦ subst (λ (s : CacheShown). IsOutOrCannotLeave s.drive j) (sym same) (ended_out old.drive j ended)
+  | inl ended ↦ subst (λ (s : CacheShown). HasLeftOrIsHeldBack s j) (sym same) (ended_so old j ended)
   | inr early ↦ absurd early
 ]
 all_ticks (suc n) old new j (mid, out, cause, goes, more) on = all_ticks n mid new j more (one_tick old mid n j out cause goes on)
@@ -192,7 +192,7 @@ below (held ∷ pending) count j has = one (nat_lt held.0 count) refl (below pen
     ]
     one false over others has = others has
 
-pub ticked : (old new : CacheShown) (j : ℕ) → IsSound old.drive → IsKnown old.drive → Ticks old (length (pending_in (dropped old))) new → Contains (pending_in (dropped old)) j → IsOutOrCannotLeave new.drive j
+pub ticked : (old new : CacheShown) (j : ℕ) → IsSound old.drive → IsKnown old.drive → Ticks old (length (pending_in (dropped old))) new → Contains (pending_in (dropped old)) j → HasLeftOrIsHeldBack new j
 ticked old new j sound known made has = all_ticks (length (pending_in (dropped old))) old new j made (record {
   sound = sound;
   known = known;

@@ -4,7 +4,7 @@ use Rattle.model_medium.specs.Cells.{Dead, IsGood}
 use Rattle.model_sectors.specs.Requests.{block_with, blocks_covered, is_partly}
 use Rattle.model_places.specs.Places.{Lists}
 use Rattle.model_drive.specs.declared.TheConstants.{LAST_COUNTER}
-use Rattle.model_drive.specs.Shown.{Shown, HasLostSdl, home_cell}
+use Rattle.model_drive.specs.Shown.{Shown, HasLostSdl, block_count, home_cell}
 use Rattle.model_drive.specs.Course.{IsUsable}
 use Rattle.model_cache.specs.Values.{IsPending}
 use Rattle.model_cache.specs.Shown.{CacheShown}
@@ -20,9 +20,20 @@ pub record CannotLeave (shown : Shown) (i : ℕ) : Type 0 where
   pub dead : home_cell shown i ≡ Dead
   pub cause : ((spare : ℕ) → ¬ IsUsable shown i spare) ⊎ CannotList shown
 
--- a block that was tried is in its home, whole, or it cannot leave
-abbrev pub IsOutOrCannotLeave : Shown → ℕ → Type 0
-IsOutOrCannotLeave shown i = IsGood (home_cell shown i) ⊎ CannotLeave shown i
+-- A block of the disc has left the cache: it is not pending, and its home has whole bytes.
+pub record HasLeft (shown : CacheShown) (i : ℕ) : Type 0 where
+  pub on_disc : i < block_count shown.drive
+  pub gone : ¬ IsPending shown.pending i
+  pub whole : IsGood (home_cell shown.drive i)
+
+-- A block is held back: it is pending, and cannot leave.
+pub record IsHeldBack (shown : CacheShown) (i : ℕ) : Type 0 where
+  pub pending : IsPending shown.pending i
+  pub cannot : CannotLeave shown.drive i
+
+-- a block that was tried has left, or is held back
+abbrev pub HasLeftOrIsHeldBack : CacheShown → ℕ → Type 0
+HasLeftOrIsHeldBack shown i = HasLeft shown i ⊎ IsHeldBack shown i
 
 -- a block can be read: it is pending, or its home has whole bytes at the end
 abbrev pub CanBeRead : CacheShown → Shown → ℕ → Type 0

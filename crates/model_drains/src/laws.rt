@@ -2,23 +2,26 @@
 
 ghost use Rattle.std.specs.Prelude.{◌≡◌, ◌≢◌, ℕ, ◌+◌, ◌<◌, ◌≤◌, Bool, true, false, Option, List, length};
 ghost use Rattle.std.specs.List.{Contains, filter};
+ghost use Rattle.model_medium.specs.Cells.{Good};
+ghost use Rattle.model_sectors.specs.Discs.{block_of};
 ghost use Rattle.model_sectors.specs.Requests.{block_with, blocks_covered, is_partly};
 ghost use Rattle.model_sectors.specs.declared.ReadOut.{ReadOut};
 ghost use Rattle.model_sectors.specs.declared.ReadOut.TheVariants as reads;
 ghost use Rattle.model_drive.specs.declared.WriteOut.{WriteOut};
 ghost use Rattle.model_drive.specs.declared.WriteOut.TheVariants as writes;
-ghost use Rattle.model_drive.specs.Shown.{IsOn, IsFormatted, IsKnown};
+ghost use Rattle.model_drive.specs.Shown.{IsOn, IsFormatted, IsKnown, home_cell};
 ghost use Rattle.model_drive.specs.Sound.{IsSound};
 ghost use Rattle.model_drive.specs.Parts.{IsInRange, NoneCounted};
 ghost use Rattle.model_costs.specs.Costs.{Lives};
 ghost use Rattle.model_cache.specs.declared.SyncOut.{SyncOut};
 ghost use Rattle.model_cache.specs.declared.SyncOut.TheVariants as syncs;
 ghost use Rattle.model_cache.specs.declared.TickOut.{TickOut};
-ghost use Rattle.model_cache.specs.Shown.{CacheShown, dropped, pending_in, pending_covered};
+ghost use Rattle.model_cache.specs.Values.{Values, Has};
+ghost use Rattle.model_cache.specs.Shown.{CacheShown, CacheStandsFor, dropped, pending_in, pending_covered};
 ghost use Rattle.model_cache.specs.Drains.{Tries, StopsTrying};
 ghost use Rattle.model_cache.specs.Causes.{leave_first, CacheReadCause, CachedCause, CacheWriteCause, ThroughCause, SyncCause, TickCause, as_write};
 ghost use Rattle.model_drains.specs.Costing.{CostsAtMost, is_stopped, is_stopped_tick};
-ghost use Rattle.model_drains.specs.Leaving.{CannotLeave, IsOutOrCannotLeave, CanReadAll, CanReadRests};
+ghost use Rattle.model_drains.specs.Leaving.{CannotLeave, HasLeft, HasLeftOrIsHeldBack, CanReadAll, CanReadRests};
 ghost use Rattle.model_drains.specs.Ticks.{Ticks};
 
 /// A drain loses no block that can be read: a block lives through it, but for the one in which it is stopped.
@@ -47,18 +50,20 @@ pub fn a_call_with_the_cache_costs_one_block()
         → TickCause old new out → CostsAtMost (is_stopped_tick out) old.drive new.drive }
 {}
 
-/// Each block that was tried is out, or cannot leave: after a drain of all that are due, after a synchronisation that was not stopped,
-/// and after as many ticks as blocks are pending.
-pub fn what_was_tried_is_out_or_cannot_leave()
+/// Each block that was tried has left the cache, or is held back: after a drain of all that are due, after a synchronisation that was
+/// not stopped, and after as many ticks as blocks are pending. The home of one that has left has its last bytes.
+pub fn what_was_tried_has_left_or_is_held_back()
     ensures drained { (due : List ℕ) (short : ℕ) (old new : CacheShown) (first : Option WriteOut) (i : ℕ)
         → IsSound old.drive → IsKnown old.drive → Tries old due (length due) new short first
-        → Contains due i → IsOutOrCannotLeave new.drive i }
+        → Contains due i → HasLeftOrIsHeldBack new i }
     ensures synchronised { (old new : CacheShown) (out : SyncOut) (i : ℕ) → IsSound old.drive → IsKnown old.drive
         → IsOn old.drive → IsFormatted old.drive → Contains (pending_in (dropped old)) i
-        → out ≢ syncs.Cut → out ≢ syncs.Fault → SyncCause old new out → IsOutOrCannotLeave new.drive i }
+        → out ≢ syncs.Cut → out ≢ syncs.Fault → SyncCause old new out → HasLeftOrIsHeldBack new i }
     ensures ticked { (old new : CacheShown) (i : ℕ) → IsSound old.drive → IsKnown old.drive
         → Ticks old (length (pending_in (dropped old))) new
-        → Contains (pending_in (dropped old)) i → IsOutOrCannotLeave new.drive i }
+        → Contains (pending_in (dropped old)) i → HasLeftOrIsHeldBack new i }
+    ensures bytes { (new : CacheShown) (values : Values) (i : ℕ) → CacheStandsFor new (Has values)
+        → HasLeft new i → home_cell new.drive i ≡ Good (block_of values.disc i) }
 {}
 
 /// What can leave the cache does, where neither a cut nor a fault comes: a synchronisation is good where each pending block can leave

@@ -9,5 +9,5 @@ mod laws;
 pub use laws::{
     a_call_with_the_cache_costs_one_block, a_drain_leaves_blocks_living,
     a_write_with_room_in_the_cache_is_good, what_can_leave_the_cache_does,
-    what_is_pending_or_whole_is_read, what_was_tried_is_out_or_cannot_leave,
+    what_is_pending_or_whole_is_read, what_was_tried_has_left_or_is_held_back,
 };
