@@ -84,7 +84,8 @@ pub fn write_cell<I: Image>(image: &mut I, total: u32, block: u32, from: &[u8]) 
     requires whole { ForSome (I.bytes image.old) (λ held. length held ≡ image_len total) }
     ensures rule { WriteCellRule (cell_call I.Image total block image.old image.new) from.now result }
     ensures bytes { WriteCellBytes (cell_call I.Image total block image.old image.new) from.now result }
-    ensures past { Passes I.Image (PutsInBlock total block from.now) image.old image.new }
+    ensures past { Passes I.Image (PutsInBlock total block from.now)
+        image.old image.new }
 {
     match image.write_at(state_offset(block), &[TORN]) {
         Moved::Failed => return Moved::Failed,
@@ -134,7 +135,8 @@ pub fn kill_cell<I: Image>(image: &mut I, total: u32, block: u32) -> Moved
     requires whole { ForSome (I.bytes image.old) (λ held. length held ≡ image_len total) }
     ensures rule { WriteStateRule (cell_call I.Image total block image.old image.new) Dead result }
     ensures bytes { WriteStateBytes (cell_call I.Image total block image.old image.new) dead_state result }
-    ensures past { Passes I.Image (λ held held'. IsBeforeOrAfter held (with_state block dead_state held) held') image.old image.new }
+    ensures past { Passes I.Image (λ held held'. IsBeforeOrAfter held (with_state block dead_state held) held')
+        image.old image.new }
 {
     image.write_at(state_offset(block), &[DEAD])
 }
@@ -145,7 +147,8 @@ fn tear_cell<I: Image>(image: &mut I, total: u32, block: u32) -> Moved
     requires whole { ForSome (I.bytes image.old) (λ held. length held ≡ image_len total) }
     ensures rule { WriteStateRule (cell_call I.Image total block image.old image.new) Torn result }
     ensures bytes { WriteStateBytes (cell_call I.Image total block image.old image.new) torn_state result }
-    ensures past { Passes I.Image (λ held held'. IsBeforeOrAfter held (with_state block torn_state held) held') image.old image.new }
+    ensures past { Passes I.Image (λ held held'. IsBeforeOrAfter held (with_state block torn_state held) held')
+        image.old image.new }
 {
     image.write_at(state_offset(block), &[TORN])
 }
@@ -156,7 +159,8 @@ pub fn kill_where<I: Image>(image: &mut I, total: u32, block: u32, dies: bool) -
     requires whole { ForSome (I.bytes image.old) (λ held. length held ≡ image_len total) }
     ensures rule { KillWhereRule (cell_call I.Image total block image.old image.new) dies result }
     ensures bytes { KillWhereBytes (cell_call I.Image total block image.old image.new) dies result }
-    ensures past { Passes I.Image (λ held held'. IsBeforeOrAfter held (worn_bytes dies block held) held') image.old image.new }
+    ensures past { Passes I.Image (λ held held'. IsBeforeOrAfter held (worn_bytes dies block held) held')
+        image.old image.new }
 {
     if dies {
         return kill_cell(image, total, block);
@@ -181,7 +185,8 @@ pub fn leave_cell<I: Image>(
     requires known { known ≡ true → ForSome (I.bytes image.old) (λ held. slice_index held (16 + block) ≡ 1) }
     ensures rule { LeaveCellRule (cell_call I.Image total block image.old image.new) from.now fate result }
     ensures bytes { LeaveCellBytes (cell_call I.Image total block image.old image.new) from.now fate result }
-    ensures past { Passes I.Image (StopsInBytes total block from.now) image.old image.new }
+    ensures past { Passes I.Image (StopsInBytes total block from.now)
+        image.old image.new }
 {
     if known {
         return leave_alive(image, total, block, from, fate);
@@ -201,7 +206,8 @@ fn leave_alive<I: Image>(image: &mut I, total: u32, block: u32, from: &[u8], fat
     requires alive { IfSome (I.bytes image.old) (λ held. ¬ (cell_in total held block ≡ Dead)) }
     ensures rule { LeaveCellRule (cell_call I.Image total block image.old image.new) from.now fate result }
     ensures bytes { LeaveCellBytes (cell_call I.Image total block image.old image.new) from.now fate result }
-    ensures past { Passes I.Image (StopsInBytes total block from.now) image.old image.new }
+    ensures past { Passes I.Image (StopsInBytes total block from.now)
+        image.old image.new }
 {
     match fate {
         Fate::Old => Moved::Done,

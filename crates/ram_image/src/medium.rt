@@ -538,7 +538,8 @@ impl<I: Image> MediumControl for ImageMedium<I> {
         ensures rule { FailRule (total (shape_of_medium self.old)) (machine_in self.old) (machine_in self.new)
             block result }
         ensures bytes { FailBytes block (bytes_in self.old) (bytes_in self.new) result }
-        ensures past { PassesIn (λ held held'. IsBeforeOrAfter held (with_state block dead_state held) held') self.old self.new }
+        ensures past { PassesIn (λ held held'. IsBeforeOrAfter held (with_state block dead_state held) held')
+            self.old self.new }
         ensures as_many { total (shape_of_medium self.new) ≡ total (shape_of_medium self.old) }
         ensures same_shape { shape_of_medium self.new ≡ shape_of_medium self.old }
     {

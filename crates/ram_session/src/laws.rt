@@ -64,8 +64,8 @@ pub fn a_good_read_gives_its_sectors()
 ///
 /// - the sector is acknowledged with the same bytes after the messages as before them.
 pub fn what_was_acknowledged_stays()
-    ensures { (size at : ℕ) (first last : State) (turns : List Turned) (phase : Phase) (bytes : List ℕ) → size < 2048 * 2 ^ 32
-        → Talk (Serving size) first turns last phase → LeaveByMessages size at turns
+    ensures { (size at : ℕ) (first last : State) (turns : List Turned) (phase : Phase) (bytes : List ℕ)
+        → size < 2048 * 2 ^ 32 → Talk (Serving size) first turns last phase → LeaveByMessages size at turns
         → Acknowledged first at bytes → Acknowledged last at bytes }
 {}
 
@@ -75,8 +75,8 @@ pub fn what_was_acknowledged_stays()
 ///
 /// - two talks over the same bytes, of equally many messages, have the same messages, phase and rest.
 pub fn a_session_has_one_reading()
-    ensures { (export : Export) (s t u v : State) (turns others : List Turned) (phase other : Phase) (rest left : List ℕ)
-        → Talk export s turns t phase → Talk export u others v other → length turns ≡ length others
+    ensures { (export : Export) (s t u v : State) (turns others : List Turned) (phase other : Phase)
+        (rest left : List ℕ) → Talk export s turns t phase → Talk export u others v other → length turns ≡ length others
         → sent_in turns ++ rest ≡ sent_in others ++ left
         → (map (λ (turned : Turned). turned.message) turns ≡ map (λ (turned : Turned). turned.message) others)
         × (phase ≡ other) × (rest ≡ left) }

@@ -159,7 +159,8 @@ impl Image for MemImage {
         ensures rule { LenRule (Some self.old.bytes) (Some self.new.bytes)
             self.old.calls.faults self.new.calls.faults result }
         ensures past { LenPast (view_now self.old) (view_now self.new) result }
-        ensures stops { 0 < self.old.calls.faults → FailsAgain lengths.Failed result (Some self.old.bytes) (Some self.new.bytes) }
+        ensures stops { 0 < self.old.calls.faults
+            → FailsAgain lengths.Failed result (Some self.old.bytes) (Some self.new.bytes) }
         ensures exactly { GivesLengthExactly self.old self.new result }
     {
         if self.next_fails() {
@@ -173,7 +174,8 @@ impl Image for MemImage {
         ensures rule { ReadAtRule (Some self.old.bytes) (Some self.new.bytes)
             self.old.calls.faults self.new.calls.faults at into.new result }
         ensures past { ReadPast (view_now self.old) (view_now self.new) result }
-        ensures stops { 0 < self.old.calls.faults → FailsAgain moves.Failed result (Some self.old.bytes) (Some self.new.bytes) }
+        ensures stops { 0 < self.old.calls.faults
+            → FailsAgain moves.Failed result (Some self.old.bytes) (Some self.new.bytes) }
         ensures exactly { ReadsImageExactly self.old self.new at into.old into.new result }
     {
         if self.next_fails() {
@@ -189,7 +191,8 @@ impl Image for MemImage {
         ensures rule { WriteAtRule (Some self.old.bytes) (Some self.new.bytes)
             self.old.calls.faults self.new.calls.faults at from.now result }
         ensures past { WritePast (view_now self.old) (view_now self.new) result }
-        ensures stops { 0 < self.old.calls.faults → FailsAgain moves.Failed result (Some self.old.bytes) (Some self.new.bytes) }
+        ensures stops { 0 < self.old.calls.faults
+            → FailsAgain moves.Failed result (Some self.old.bytes) (Some self.new.bytes) }
         ensures exactly { WritesImageExactly self.old self.new at from.now result }
     {
         if self.next_fails() {
@@ -205,7 +208,8 @@ impl Image for MemImage {
         ensures rule { SetLenRule (Some self.old.bytes) (Some self.new.bytes)
             self.old.calls.faults self.new.calls.faults len result }
         ensures past { WritePast (view_now self.old) (view_now self.new) result }
-        ensures stops { 0 < self.old.calls.faults → FailsAgain moves.Failed result (Some self.old.bytes) (Some self.new.bytes) }
+        ensures stops { 0 < self.old.calls.faults
+            → FailsAgain moves.Failed result (Some self.old.bytes) (Some self.new.bytes) }
         ensures exactly { ResizesExactly self.old self.new len result }
     {
         if self.next_fails() {
@@ -231,7 +235,8 @@ impl Image for MemImage {
         ensures rule { SyncRule (Some self.old.bytes) (Some self.new.bytes)
             self.old.calls.faults self.new.calls.faults result }
         ensures past { ReadPast (view_now self.old) (view_now self.new) result }
-        ensures stops { 0 < self.old.calls.faults → FailsAgain moves.Failed result (Some self.old.bytes) (Some self.new.bytes) }
+        ensures stops { 0 < self.old.calls.faults
+            → FailsAgain moves.Failed result (Some self.old.bytes) (Some self.new.bytes) }
         ensures exactly { SyncsExactly self.old self.new result }
     {
         if self.next_fails() {
