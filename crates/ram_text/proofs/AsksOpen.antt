@@ -1,8 +1,8 @@
 -- More is asked for only where no whole line has come.
-use Rattle.std.proofs.Common.{◌≡◌, ℕ, Option, List, ap, sym, ◌∙◌}
+use Rattle.std.proofs.Common.{◌≡◌, ℕ, Option, List}
 use Rattle.std.specs.Io.KnownBytes.{prepend_known}
 use Rattle.ram_outside.specs.Conversation.{Asked, AsksNow, AsksOnly, asked_with}
-use Rattle.ram_outside.proofs.Additions.{added_none_of, added_once, added_then}
+use Rattle.ram_outside.proofs.Additions.{added_once, added_then}
 use Rattle.ram_text.specs.Lines.{HasNoFeed, IsOpenAsk}
 
 -- once more in the search for a line, while what was buffered has no line feed

@@ -191,10 +191,10 @@ payload_found cdb word digits kinds.Hex payload is h =
     inr (inr (record { named = is; digits_are = hex_found digits payload h }))
 
 -- what the same pairs have
-some_same : {A : Type 0} (x y : A) → Some x ≡ Some y → x ≡ y
+pub some_same : {A : Type 0} (x y : A) → Some x ≡ Some y → x ≡ y
 some_same x y h = cc
 
-pair_same : (a b : Line) (p q : List ℕ) → ◌≡◌ {A = Option (Line × List ℕ)} (Some (a, p)) (Some (b, q)) → (a ≡ b) × (p ≡ q)
+pub pair_same : (a b : Line) (p q : List ℕ) → ◌≡◌ {A = Option (Line × List ℕ)} (Some (a, p)) (Some (b, q)) → (a ≡ b) × (p ≡ q)
 pair_same a b p q h =
     let x : Line × List ℕ = (a, p) in
     let y : Line × List ℕ = (b, q) in
@@ -223,7 +223,7 @@ command_found (word ∷ words) line payload h =
     (subst (λ (x : List ℕ). IsForm (codes "cdb" ∷ word ∷ words) (Command cdb.0) x) p (command_by word cdb.0 words put.0 (block_found word cdb.0 cdb.1) put.1))
 
 -- a line that has no data
-alone_found : (o : Option Line) (line : Line) (payload : List ℕ) → alone o ≡ Some (line, payload) → (o ≡ Some line) × ([] ≡ payload)
+pub alone_found : (o : Option Line) (line : Line) (payload : List ℕ) → alone o ≡ Some (line, payload) → (o ≡ Some line) × ([] ≡ payload)
 alone_found None line payload h = cc
 alone_found (Some l) line payload h = let same = pair_same l line [] payload h in (ap Some same.0, same.1)
 

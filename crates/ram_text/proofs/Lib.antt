@@ -7,5 +7,6 @@ pub mod HexPairs
 pub mod HexSteps
 pub mod ScriptReadings
 pub mod Forms
+pub mod Faults
 pub mod Limits
 pub mod AsksOpen

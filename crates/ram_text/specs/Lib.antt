@@ -6,3 +6,4 @@ pub mod DialogueRoom
 pub mod ScriptWords
 pub mod Script
 pub mod ScriptReading
+pub mod Faults

@@ -37,5 +37,5 @@ mod words;
 pub use dialogue::{DIALOGUE_MEMORY, Dialogue, DialogueRoom};
 pub use lines::{LINE_LIMIT, LineReader, NextLine, SCRIPT_LIMIT};
 pub use payload::PAYLOAD_ROOM;
-pub use script::{Line, Unread, parse_line};
+pub use script::{Line, Unread, parse_fault, parse_line};
 pub use words::{are_digits, decimal};

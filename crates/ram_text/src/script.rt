@@ -1,7 +1,8 @@
 //! The lines of the script language.
-ghost use Rattle.std.specs.Prelude.{◌≡◌, ◌≤◌, [], ℕ, List, MatchResult, length, vec_capacity};
+ghost use Rattle.std.specs.Prelude.{◌≡◌, ◌≤◌, [], ℕ, List, MatchResult, IfSome, IfNone, length, vec_capacity};
 ghost use Rattle.ram_text.specs.ScriptWords.{words_of};
 ghost use Rattle.ram_text.specs.Script.{Reads};
+ghost use Rattle.ram_text.specs.Faults.{IsFaultWord, fault_of, fault_in};
 ghost use Rattle.ram_text.specs.ScriptReading.{press_of, power_of, fail_of, wear_of, cut_of, tick_of, scrub_of, command_of, fate_of, form_of, line_by, line_of, reading_of, Puts};
 ghost use Rattle.ram_text.specs.declared.lines.TheConstants.{LINE_LIMIT};
 ghost use Rattle.ram_text.specs.declared.payload.TheConstants.{PAYLOAD_ROOM};
@@ -115,6 +116,43 @@ pub fn parse_line(line: &[u8], payload: &mut Vec<u8>) -> Result<Line, Unread>
     ensures room { vec_capacity payload.old ≤ vec_capacity payload.new }
 {
     read_line(without_return_of(line), payload).ok_or(Unread)
+}
+
+/// The line that a word of the program is, where it makes a block fail, now or at a later use, or cuts the power at one.
+///
+/// # Answers
+///
+/// - `Some`: the word reads as this line, which is such a fault. (`IsFaultWord`)
+/// - `None`: exactly when it reads as none. (clause)
+/// - `Fail`, `Wear`, `Cut`: as of `parse_line`. (`IsFaultWord`)
+/// - `Empty`, `Press`, `Power`, `Tick`, `Scrub`, `Command`: never. (`IsFault`)
+pub fn parse_fault(word: &[u8]) -> Option<Line>
+    ensures some { IfSome result (λ line. IsFaultWord word.now line) }
+    ensures none { IfNone result ((line : Read) → ¬ IsFaultWord word.now line) }
+{
+    read_fault(without_return_of(word))
+}
+
+fn read_fault(line: &[u8]) -> Option<Line>
+    ensures { result ≡ fault_in line.now }
+{
+    if let [b'#', ..] = line {
+        return None;
+    }
+    read_fault_words(line)
+}
+
+#[tactic(auto, unfolding(crate::specs::Faults::fault_of))]
+fn read_fault_words(line: &[u8]) -> Option<Line>
+    ensures { result ≡ fault_of (words_of line.now) }
+{
+    let (word, rest) = next_word(line)?;
+    match form_named(word)? {
+        Form::Fail => fail(rest),
+        Form::Wear => wear(rest),
+        Form::Cut => cut(rest),
+        Form::Press | Form::Power | Form::Tick | Form::Scrub | Form::Command => None,
+    }
 }
 
 fn read_line(line: &[u8], payload: &mut Vec<u8>) -> Option<Line>
