@@ -3,3 +3,4 @@ pub mod Decoded
 pub mod ReadData
 pub mod Kept
 mod OneReading
+pub mod Promised

@@ -3,3 +3,4 @@ pub mod Talk
 pub mod Opening
 pub mod Kept
 pub mod Session
+pub mod Promise
