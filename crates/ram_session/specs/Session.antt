@@ -115,30 +115,37 @@ pub record IsNotGreeted (first : Beginning) (after : Aftermath) : Type 0 where
   pub written_is : after.written ≡ Some first.report
   pub left_is : after.left ≡ Some first.script
 
--- A fault that the words ask for was refused, and the image is as the lines leave it.
-pub record EndsAtFault (first : Beginning) (faults : List Line) (after : Aftermath) : Type 0 where
+-- A fault that the words ask for was refused. The state after it may be left.
+pub record EndsAtFault (first : Beginning) (faults : List Line) (leaves : State → Type 0) : Type 0 where
   pub part : IsOpenedInPart first faults
   pub reply : Reply
   pub data_in : List ℕ
   pub state : State
   pub step : Step part.now part.next.line part.next.payload (Ok reply) data_in state
   pub refused : RefusesFault reply
-  pub ungreeted : IsNotGreeted first after
-  pub image_is : LeavesImage state after.image
+  pub leaves_state : leaves state
+
+-- The image failed in a line before a client was greeted. The state after it may be left.
+pub record EndsInOpening (first : Beginning) (faults : List Line) (leaves : State → Type 0) : Type 0 where
+  pub part : IsOpenedInPart first faults
+  pub data_in : List ℕ
+  pub state : State
+  pub step : Step part.now part.next.line part.next.payload (Err stopped.ImageFault) data_in state
+  pub leaves_state : leaves state
 
 -- The image failed when it was opened, which leaves its bytes.
 pub record EndsUnopened (first : Beginning) (after : Aftermath) : Type 0 where
   pub ungreeted : IsNotGreeted first after
   pub image_is : after.image ≡ Some first.image
 
--- The image failed in a line before a client was greeted.
-pub record EndsInOpening (first : Beginning) (faults : List Line) (after : Aftermath) : Type 0 where
-  pub part : IsOpenedInPart first faults
-  pub data_in : List ℕ
-  pub state : State
-  pub step : Step part.now part.next.line part.next.payload (Err stopped.ImageFault) data_in state
-  pub ungreeted : IsNotGreeted first after
-  pub image_is : LeavesImage state after.image
+-- A fault that the words ask for was refused, so no client was greeted. The image is as the lines leave it.
+abbrev pub EndsRefused : Beginning → (faults : List Line) → Aftermath → Type 0
+EndsRefused first faults after = EndsAtFault first faults (λ s. LeavesImage s after.image) × IsNotGreeted first after
+
+-- The image failed before a client was greeted: when it was opened, or in a line, as which it is left.
+abbrev pub EndsFailed : Beginning → (faults : List Line) → Aftermath → Type 0
+EndsFailed first faults after =
+    EndsUnopened first after ⊎ (EndsInOpening first faults (λ s. LeavesImage s after.image) × IsNotGreeted first after)
 
 -- A client was greeted, and the session ended with this status. The image is as its messages leave it.
 abbrev pub EndsGreeted : Beginning → (faults : List Line) → Aftermath → Status → Type 0
@@ -146,9 +153,8 @@ EndsGreeted first faults after status = TalkEnds first faults (λ s. LeavesImage
 
 -- What stands with each status of a session, where the bytes of source, sink and image are known.
 abbrev pub SessionStands : Beginning → (faults : List Line) → Aftermath → Status → Type 0
-SessionStands first faults after statuses.Script = EndsAtFault first faults after ⊎ EndsGreeted first faults after statuses.Script
-SessionStands first faults after statuses.ImageFault =
-    EndsUnopened first after ⊎ EndsInOpening first faults after ⊎ EndsGreeted first faults after statuses.ImageFault
+SessionStands first faults after statuses.Script = EndsRefused first faults after ⊎ EndsGreeted first faults after statuses.Script
+SessionStands first faults after statuses.ImageFault = EndsFailed first faults after ⊎ EndsGreeted first faults after statuses.ImageFault
 SessionStands first faults after status = EndsGreeted first faults after status
 
 -- The count that a status tells of rose, and no other; with every other status nothing failed at all.
