@@ -1,5 +1,5 @@
 -- The promise of a session, from what stands with each status.
-use Rattle.std.specs.Prelude.{◌≡◌, ℕ, ◌+◌, ◌<◌, false, Option, Some, None, List, [], ◌∷◌, ◌++◌, map, length, take, drop}
+use Rattle.std.specs.Prelude.{◌≡◌, ℕ, false, Option, Some, None, List, [], ◌∷◌, ◌++◌, map, take, drop}
 use Rattle.std.proofs.Common.{refl, sym, ap, ◌∙◌, inl, inr, append_assoc, append-nil, take-append-drop}
 use Rattle.model_cache.proofs.Members.{Contains-none}
 use Rattle.model_nbd.specs.Messages.{greeting}
@@ -13,9 +13,11 @@ use Rattle.ram_machine.specs.States.{State, Unopened, Disc}
 use Rattle.ram_machine.proofs.SectorOpened.{registers}
 use Rattle.ram_script.specs.Progress.{Beginning}
 use Rattle.ram_session.specs.Doing.{step_of}
-use Rattle.ram_session.specs.Talk.{Phase, Turned, Talk, dids_in, sent_in, told_in}
+use Rattle.ram_session.specs.Talk.{Phase, Turned, Talk, dids_in, told_in}
 use Rattle.ram_session.specs.Opening.{Given, AreOpening, IsOpenedInPart, opening_lines, lines_done, export_after}
-use Rattle.ram_session.specs.Session.{SessionSoFar, TalkEnds, newest, earlier}
+use Rattle.ram_script.specs.Endings.{Aftermath}
+use Rattle.ram_machine.specs.Inserted.{LeavesImage}
+use Rattle.ram_session.specs.Session.{SessionSoFar, TalkEnds, SessionStands, newest, earlier}
 use Rattle.ram_session.specs.Promise.{AreAnswered, KeepsSession}
 use Rattle.ram_session.proofs.Chains.{session_runs}
 
@@ -140,3 +142,26 @@ module _ (first : Beginning) (faults : List Line) where
         opened = record { off = refl; held = λ value has. absurd (Contains-none value has); uncached = refl };
         turns = refl;
       }
+
+-- by the status
+pub session_keeps : (first : Beginning) (faults : List Line) (after : Aftermath) (status : Status) → SessionStands first faults after status
+    → KeepsSession faults first.script first.report first.image after.written
+session_keeps first faults after status stands = by status stands
+  where
+    left : (status : Status) → TalkEnds first faults (λ s. LeavesImage s after.image) after.left after.written status
+        → KeepsSession faults first.script first.report first.image after.written
+    left status = greeted first faults (λ s. LeavesImage s after.image) after.left after.written status
+
+    by : (status : Status) → SessionStands first faults after status → KeepsSession faults first.script first.report first.image after.written
+    by statuses.Script (inl (ends, ungreeted)) = in_part first faults ends.part after.written ungreeted.written_is
+    by statuses.Script (inr ends) = left statuses.Script ends
+    by statuses.ImageFault (inl (inl unopened)) = not_begun first faults after.written unopened.ungreeted.written_is
+    by statuses.ImageFault (inl (inr (ends, ungreeted))) = in_part first faults ends.part after.written ungreeted.written_is
+    by statuses.ImageFault (inr ends) = left statuses.ImageFault ends
+    by statuses.Done ends = left statuses.Done ends
+    by statuses.SourceFault ends = left statuses.SourceFault ends
+    by statuses.SinkFault ends = left statuses.SinkFault ends
+    by statuses.Differs ends = left statuses.Differs ends
+    by statuses.Usage ends = left statuses.Usage ends
+    by statuses.NoMemory ends = left statuses.NoMemory ends
+    by statuses.NotADisc ends = left statuses.NotADisc ends

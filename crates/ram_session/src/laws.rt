@@ -12,11 +12,14 @@ ghost use Rattle.ram_machine.specs.LineSteps.{Step};
 ghost use Rattle.ram_machine.specs.States.{State};
 ghost use Rattle.ram_machine.specs.Runs.{Run};
 ghost use Rattle.ram_machine.specs.Acknowledged.{Acknowledged};
+ghost use Rattle.ram_machine.specs.declared.status.Status.{Status};
+ghost use Rattle.ram_script.specs.Endings.{Aftermath};
 ghost use Rattle.ram_script.specs.Progress.{Beginning};
 ghost use Rattle.ram_session.specs.Doing.{Doing, step_of};
 ghost use Rattle.ram_session.specs.Talk.{Phase, Turned, Talk, dids_in, sent_in};
 ghost use Rattle.ram_session.specs.Kept.{LeaveByMessages};
-ghost use Rattle.ram_session.specs.Session.{SessionSoFar};
+ghost use Rattle.ram_session.specs.Promise.{KeepsSession};
+ghost use Rattle.ram_session.specs.Session.{SessionSoFar, SessionStands};
 
 /// What the messages of a client do is a run of the machine that answers a script; and so is a whole session, with the lines before the
 /// greeting.
@@ -30,6 +33,14 @@ pub fn a_talk_is_a_run()
         → Talk export first turns last phase → Doing first (dids_in turns) last }
     ensures session { (first : Beginning) (faults : List Line) (far : SessionSoFar first faults)
         → Run far.opened.start (map step_of (dids_in far.turns) ++ far.opened.steps) far.now }
+{}
+
+/// A session keeps its promise, with whatever status it ends: each sector is a register over the commands of the messages that were
+/// answered, and nothing else was written than a beginning of these answers.
+pub fn a_session_keeps_its_promise()
+    ensures { (first : Beginning) (faults : List Line) (after : Aftermath) (status : Status)
+        → SessionStands first faults after status
+        → KeepsSession faults first.script first.report first.image after.written }
 {}
 
 /// The command blocks of requests ask the drive for what the requests ask.
