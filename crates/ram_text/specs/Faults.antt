@@ -1,6 +1,6 @@
 -- The lines that make something fail, as words of the program ask for them. (This project's own, as all here.)
 use Rattle.std.specs.Prelude.{◌≡◌, ℕ, ◌==◌, if◌then◌else◌, Option, None, List, [], ◌∷◌, slice_index}
-use Rattle.ram_text.specs.ScriptWords.{words_of, number_sign}
+use Rattle.ram_text.specs.ScriptWords.{words_of, without_return, number_sign}
 use Rattle.ram_text.specs.Script.{Reads}
 use Rattle.ram_text.specs.ScriptReading.{◌>>=◌, form_of, fail_of, wear_of, cut_of}
 use Rattle.ram_text.specs.declared.script.Form.{Form}
@@ -41,3 +41,7 @@ fault_of (word ∷ words) = form_of word >>= fault_by words
 -- the fault of a line without its line feed and carriage return
 abbrev pub fault_in : List ℕ → Option Line
 fault_in line = if slice_index line 0 == number_sign then None else fault_of (words_of line)
+
+-- the fault that a word reads as
+abbrev pub fault_word : List ℕ → Option Line
+fault_word word = fault_in (without_return word)

@@ -2,7 +2,7 @@
 ghost use Rattle.std.specs.Prelude.{◌≡◌, ◌≤◌, [], ℕ, List, MatchResult, IfSome, IfNone, length, vec_capacity};
 ghost use Rattle.ram_text.specs.ScriptWords.{words_of};
 ghost use Rattle.ram_text.specs.Script.{Reads};
-ghost use Rattle.ram_text.specs.Faults.{IsFaultWord, fault_of, fault_in};
+ghost use Rattle.ram_text.specs.Faults.{IsFaultWord, fault_of, fault_in, fault_word};
 ghost use Rattle.ram_text.specs.ScriptReading.{press_of, power_of, fail_of, wear_of, cut_of, tick_of, scrub_of, command_of, fate_of, form_of, line_by, line_of, reading_of, Puts};
 ghost use Rattle.ram_text.specs.declared.lines.TheConstants.{LINE_LIMIT};
 ghost use Rattle.ram_text.specs.declared.payload.TheConstants.{PAYLOAD_ROOM};
@@ -127,6 +127,7 @@ pub fn parse_line(line: &[u8], payload: &mut Vec<u8>) -> Result<Line, Unread>
 /// - `Fail`, `Wear`, `Cut`: as of `parse_line`. (`IsFaultWord`)
 /// - `Empty`, `Press`, `Power`, `Tick`, `Scrub`, `Command`: never. (`IsFault`)
 pub fn parse_fault(word: &[u8]) -> Option<Line>
+    ensures reads { result ≡ fault_word word.now }
     ensures some { IfSome result (λ line. IsFaultWord word.now line) }
     ensures none { IfNone result ((line : Read) → ¬ IsFaultWord word.now line) }
 {
