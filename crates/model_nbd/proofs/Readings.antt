@@ -3,18 +3,24 @@ use Rattle.std.proofs.Common.{◌≡◌, ℕ, ◌<◌, ◌^◌, ◌==◌, if◌t
 use Rattle.std.proofs.lemmas.List.{append_cancel_left, append_assoc}
 use Rattle.byteorder.specs.Endian.{big_bytes}
 use Rattle.model_nbd.specs.declared.Header.{Header}
-use Rattle.model_nbd.specs.Messages.{OptionRequest, IsOptionRequest, option_bytes, Request, IsRequest, IsHeader, request_bytes, header_bytes, data_after, reply_bytes, requests_bytes, AreRequests, IsPartial, Splits}
+use Rattle.model_nbd.specs.Messages.{OptionRequest, IsOptionRequest, option_head_bytes, option_bytes, Request, IsRequest, IsHeader, request_bytes, header_bytes, data_after, reply_bytes, requests_bytes, AreRequests, IsPartial, Splits}
 use Rattle.model_nbd.proofs.Fields.{number_first, list_first}
+
+-- the head of an option, and what follows it
+pub option_head_first : (number other long far : ℕ) (x y : List ℕ) → number < 2 ^ 32 → other < 2 ^ 32 → long < 2 ^ 32 → far < 2 ^ 32
+    → option_head_bytes number long ++ x ≡ option_head_bytes other far ++ y → (number ≡ other) × (long ≡ far) × (x ≡ y)
+option_head_first number other long far x y small small' short short' same =
+    let numbers = number_first 4 number other (big_bytes 4 long ++ x) (big_bytes 4 far ++ y) small small'
+    (append_cancel_left (codes "IHAVEOPT") (big_bytes 4 number ++ big_bytes 4 long ++ x) (big_bytes 4 other ++ big_bytes 4 far ++ y) same) in
+    let lengths = number_first 4 long far x y short short' numbers.1 in
+    (numbers.0, lengths.0, lengths.1)
 
 pub wish_first : (a b : OptionRequest) (x y : List ℕ) → IsOptionRequest a → IsOptionRequest b → option_bytes a ++ x ≡ option_bytes b ++ y → (a ≡ b) × (x ≡ y)
 wish_first a b x y is is' same =
-    let number = number_first 4 a.number b.number (big_bytes 4 (length a.payload) ++ a.payload ++ x)
-    (big_bytes 4 (length b.payload) ++ b.payload ++ y) is.number_fits is'.number_fits
-    (append_cancel_left (codes "IHAVEOPT") (big_bytes 4 a.number ++ big_bytes 4 (length a.payload) ++ a.payload ++ x)
-    (big_bytes 4 b.number ++ big_bytes 4 (length b.payload) ++ b.payload ++ y) same) in
-    let long = number_first 4 (length a.payload) (length b.payload) (a.payload ++ x) (b.payload ++ y) is.length_fits is'.length_fits number.1 in
-    let held = list_first a.payload b.payload x y long.0 long.1 in
-    (ap₂ (λ (n : ℕ) (l : List ℕ). record { number = n; payload = l }) number.0 held.0, held.1)
+    let head = option_head_first a.number b.number (length a.payload) (length b.payload) (a.payload ++ x) (b.payload ++ y)
+    is.number_fits is'.number_fits is.length_fits is'.length_fits same in
+    let held = list_first a.payload b.payload x y head.1 head.2 in
+    (ap₂ (λ (n : ℕ) (l : List ℕ). record { number = n; payload = l }) head.0 held.0, held.1)
 
 abbrev header_of : (flags kind cookie offset len : ℕ) → Header
 header_of flags kind cookie offset len = record { flags = flags; kind = kind; cookie = cookie; offset = offset; len = len }

@@ -22,6 +22,9 @@ pub const REASON_LIMIT: usize = 114;
 /// The bytes of the greeting.
 pub const GREETING_BYTES: usize = 18;
 
+/// The bytes of a client's flags.
+pub const CLIENT_FLAGS_BYTES: usize = 4;
+
 /// The bytes that begin an option.
 pub const OPTION_HEAD_BYTES: usize = 16;
 
