@@ -1,9 +1,7 @@
 -- A request that comes: what is no request, and that what one asks fits the room for its data.
-use Rattle.std.specs.Prelude.{◌≡◌, ℕ, ◌*◌, ◌/◌, ◌<◌, ◌≤◌, ◌^◌, ◌==◌, ◌&&◌, nat_lt, if◌then◌else◌, Bool, true, false, Option, None, Some, Ok, Err, List, [], ◌++◌, length, take}
-use Rattle.std.proofs.Common.{arith, refl, sym, ap, ◌∙◌, subst, append_assoc, append-nil, length-append, length-take-le}
+use Rattle.std.specs.Prelude.{◌≡◌, ℕ, ◌*◌, ◌/◌, ◌<◌, ◌≤◌, ◌^◌, ◌==◌, ◌&&◌, nat_lt, if◌then◌else◌, Bool, true, false, Option, Ok, Err, List, ◌++◌, length}
+use Rattle.std.proofs.Common.{arith, refl, sym, ap, ◌∙◌, subst, append_assoc, length-append}
 use Rattle.std.proofs.lemmas.Bool.{and_parts, leb-true}
-use Rattle.std.specs.Io.KnownBytes.{IsAtEnd}
-use Rattle.model_counts.specs.Counts.{Rose}
 use Rattle.model_nbd.specs.declared.Header.{Header}
 use Rattle.model_nbd.specs.declared.NbdOperation.{NbdOperation}
 use Rattle.model_nbd.specs.declared.NbdOperation.TheVariants.{Refused, Read, Write, WriteZeroes, Flush, Disconnect}
@@ -16,12 +14,12 @@ use Rattle.model_nbd.proofs.Readings.{header_first}
 use Rattle.model_nbd.proofs.Inverted.{read_lies_on, write_lies_on, zero_lies_on}
 use Rattle.ram_receive.specs.Receiving.{Went}
 use Rattle.ram_machine.specs.declared.status.Status.{Status}
-use Rattle.ram_machine.specs.declared.status.Status.TheVariants as statuses
 use Rattle.ram_session.specs.Talk.{Transmission, Flags, Wants, Asks, BeginsNoMessage}
 use Rattle.ram_transmission.specs.Requests.{Fits}
 use Rattle.ram_serve.specs.Messages.{FirstRule}
 use Rattle.ram_serve.specs.Taking.{HoldsData, TakesData, IsNoMessage, NoneCame, HeaderCame, DataRule, RequestCame}
 use Rattle.ram_serve.proofs.Came.{went_on}
+use Rattle.ram_serve.proofs.Cuts.{first_cut, first_unread, others_cut}
 
 header_long : (header : Header) → length (header_bytes header) ≡ 28
 header_long header = refl
@@ -60,91 +58,27 @@ none_partial header more fields few (Asks request) after may same =
     (same ∙ append_assoc (header_bytes request.header) request.payload after) in
     omega (arith, few, ap length p.1, length-append request.payload after, may.data_are, ap data_after p.0)
 
--- nothing follows what came
-pub at_end : (left : Option (List ℕ)) (rest : List ℕ) → IsAtEnd left → left ≡ Some rest → rest ≡ []
-at_end None rest ended is = absurd (none_some rest is)
-  where
-    none_some : (xs : List ℕ) → None ≡ Some xs → ⊥
-    none_some xs same = cc
-at_end (Some xs) rest ended is = same_in xs rest is ∙ ended
-  where
-    same_in : (xs ys : List ℕ) → Some xs ≡ Some ys → ys ≡ xs
-    same_in xs ys same = cc
-
-none_at_end : (left : Option (List ℕ)) (bytes : List ℕ) → IsAtEnd left → BeginsNoMessage Transmission bytes
-    → (rest : List ℕ) → left ≡ Some rest → BeginsNoMessage Transmission (bytes ++ rest)
-none_at_end left bytes ended none rest is =
-    subst (λ (l : List ℕ). BeginsNoMessage Transmission l) (sym (ap (λ (l : List ℕ). bytes ++ l) (at_end left rest ended is) ∙ append-nil bytes)) none
-
 -- the bytes of a header came, and are none
 pub header_unread : (left left' : Option (List ℕ)) (faults faults' : ℕ) (into : List ℕ) → length into ≡ 28
     → ((header : Header) → IsHeader header → into ≡ header_bytes header → ⊥) → Went left left' into → faults' ≡ faults
     → IsNoMessage left left' faults faults' Transmission
-header_unread left left' faults faults' into long none went count = record {
-  came = into;
-  some = omega (arith, long);
-  went = went;
-  none = λ rest is. none_unread into rest long none;
-  count = count;
-}
+header_unread left left' faults faults' into long none went count =
+    first_unread Transmission left left' faults faults' into (omega (arith, long)) (λ rest. none_unread into rest long none) went count
 
 module _ (left left' : Option (List ℕ)) (faults faults' : ℕ) where
   -- the header did not come whole
   pub header_cut : (into : List ℕ) (status : Status) → length into ≡ 28 → FirstRule left left' faults faults' into (Err status)
       → NoneCame left left' faults faults' Transmission status
-  header_cut into statuses.Done long rule = rule
-  header_cut into statuses.Script long rule =
-      let many = length-take-le rule.0 into (omega (arith, rule.2)) in
-      record {
-        came = take rule.0 into;
-        some = omega (arith, many, rule.1);
-        went = rule.3.went;
-        none = none_at_end left' (take rule.0 into) rule.3.ended (none_short (take rule.0 into) (omega (arith, many, rule.2, long)));
-        count = rule.3.count;
-      }
-  header_cut into statuses.SourceFault long rule =
-      let many = length-take-le rule.0 into (omega (arith, rule.1)) in
-      record {
-        came = take rule.0 into;
-        went = rule.2.went;
-        none = none_short (take rule.0 into) (omega (arith, many, rule.1, long));
-        count = rule.2.count;
-      }
-  header_cut into statuses.Differs long rule = absurd rule
-  header_cut into statuses.Usage long rule = absurd rule
-  header_cut into statuses.ImageFault long rule = absurd rule
-  header_cut into statuses.SinkFault long rule = absurd rule
-  header_cut into statuses.NoMemory long rule = absurd rule
-  header_cut into statuses.NotADisc long rule = absurd rule
+  header_cut into status long rule =
+      first_cut Transmission left left' faults faults' into status (λ bytes few. none_short bytes (omega (arith, few, long))) rule
 
   -- the header came, and not all of its data
   pub data_cut : (mid : Option (List ℕ)) (middle : ℕ) (header : Header) (operation : NbdOperation) (room : List ℕ) (status : Status)
       → HeaderCame left mid faults middle header → DataRule mid left' middle faults' header operation room (Err status)
       → NoneCame left left' faults faults' Transmission status
-  data_cut mid middle header operation room statuses.Script came rule =
-      let part = rule.1 in
-      record {
-        came = header_bytes header ++ part.0;
-        some = omega (arith, length-append (header_bytes header) part.0, header_long header);
-        went = went_on left mid left' (header_bytes header) part.0 came.went part.2.went;
-        none = none_at_end left' (header_bytes header ++ part.0) part.2.ended (none_partial header part.0 came.fields part.1);
-        count = part.2.count ∙ came.count;
-      }
-  data_cut mid middle header operation room statuses.SourceFault came rule =
-      let part = rule.1 in
-      record {
-        came = header_bytes header ++ part.0;
-        went = went_on left mid left' (header_bytes header) part.0 came.went part.2.went;
-        none = none_partial header part.0 came.fields part.1;
-        count = subst (λ (n : ℕ). Rose n faults') came.count part.2.count;
-      }
-  data_cut mid middle header operation room statuses.Done came rule = absurd rule.1
-  data_cut mid middle header operation room statuses.Differs came rule = absurd rule.1
-  data_cut mid middle header operation room statuses.Usage came rule = absurd rule.1
-  data_cut mid middle header operation room statuses.ImageFault came rule = absurd rule.1
-  data_cut mid middle header operation room statuses.SinkFault came rule = absurd rule.1
-  data_cut mid middle header operation room statuses.NoMemory came rule = absurd rule.1
-  data_cut mid middle header operation room statuses.NotADisc came rule = absurd rule.1
+  data_cut mid middle header operation room status came rule =
+      others_cut Transmission left left' faults faults' mid middle (header_bytes header) rule.0 (data_after header) status
+      (omega (arith, header_long header)) (λ more few. none_partial header more came.fields few) came.went came.count rule.1
 
 -- a read or a write moves no more than the room holds
 abbrev IsShort : NbdOperation → Header → Type 0

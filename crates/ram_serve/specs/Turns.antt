@@ -1,12 +1,11 @@
--- How far a session came between two requests, and what one request makes of it. For the loop over the requests and the calls below it.
--- (This project's own, as all here.)
-use Rattle.std.specs.Prelude.{◌≡◌, ℕ, ◌<◌, ◌≤◌, Option, Some, Result, Ok, Err, List, [], ◌++◌, length, take}
+-- How far a session came between two messages, and what one request makes of it. For the loops over options and requests and the calls below
+-- them. (This project's own, as all here.)
+use Rattle.std.specs.Prelude.{◌≡◌, ℕ, ◌<◌, ◌≤◌, Option, Result, Ok, Err, List, [], length, take}
 use Rattle.std.specs.Io.KnownBytes.{append_known}
 use Rattle.model_nbd.specs.declared.NbdOperation.{NbdOperation}
 use Rattle.model_nbd.specs.declared.NbdOperation.TheVariants as operations
-use Rattle.model_nbd.specs.Handshake.{Serving}
+use Rattle.model_nbd.specs.Handshake.{Export, Serving}
 use Rattle.model_nbd.specs.Commands.{commands_of}
-use Rattle.ram_outside.specs.Conversation.{Asked}
 use Rattle.ram_outside.specs.Sink.{FailsOnce}
 use Rattle.ram_outside.specs.declared.sink.Sink.{Ghosts as Sinks}
 use Rattle.ram_outside.specs.declared.conversation.Conversation.{Ghosts as Conversations}
@@ -16,34 +15,34 @@ use Rattle.ram_machine.specs.declared.status.Status.TheVariants as statuses
 use Rattle.ram_machine.specs.States.{State, Served, Disc}
 use Rattle.ram_script.specs.Progress.{Beginning}
 use Rattle.ram_script.specs.RunCounts.{Counts, counts_of, SameCounts}
-use Rattle.ram_session.specs.Talk.{Transmission, phase_asked, told_in}
+use Rattle.ram_session.specs.Talk.{Phase, Transmission, phase_asked}
 use Rattle.ram_session.specs.Opening.{export_after}
 use Rattle.ram_session.specs.Session.{SessionSoFar, IsLeftAt, TalkEnds, SessionCounts}
 use Rattle.ram_transmission.specs.Chains.{ChainFails}
 use Rattle.ram_transmission.specs.Requests.{RequestDone}
 
--- BetweenRequests two requests to a disc of so many bytes, after n messages at least: all that was due was told, and the drive stands for the
--- state that the messages lead to, a disc. (`stands` tells which states the drive stands for.)
-pub record BetweenRequests (first : Beginning) (faults : List Line) (size n : ℕ) (stands : State → Type 0) (left written : Option (List ℕ)) : Type 0
-  where
-    pub far : SessionSoFar first faults
-    pub serves : export_after far.opened.steps ≡ Serving size
-    pub transmits : far.phase ≡ Transmission
-    pub disc : Served
-    pub disc_is : far.now ≡ Disc disc
-    pub many : n ≤ length far.turns
-    pub at : IsLeftAt far stands left written []
+-- Between two messages, of which n came at least: all that was due was told, the client of a session in which this is served stands in this
+-- phase, and the messages lead to one of these states.
+pub record BetweenMessages (first : Beginning) (faults : List Line) (export : Export) (phase : Phase) (n : ℕ)
+    (stands : State → Type 0) (left written : Option (List ℕ)) : Type 0 where
+  pub far : SessionSoFar first faults
+  pub serves : export_after far.opened.steps ≡ export
+  pub phase_is : far.phase ≡ phase
+  pub many : n ≤ length far.turns
+  pub at : IsLeftAt far stands left written []
+
+-- The same between two requests to a disc of so many bytes: the messages lead to a disc. (`stands` tells which states the drive stands for.)
+pub record BetweenRequests (first : Beginning) (faults : List Line) (size n : ℕ) (stands : State → Type 0)
+    (left written : Option (List ℕ)) : Type 0 where
+  pub between : BetweenMessages first faults (Serving size) Transmission n stands left written
+  pub disc : Served
+  pub disc_is : between.far.now ≡ Disc disc
 
 -- What requests make of it, by the answer of the call: they are answered; or the session ends with this status.
 abbrev pub RequestsLeadTo : Beginning → (faults : List Line) → (size n : ℕ) → (stands : State → Type 0) → (left written : Option (List ℕ))
     → Result (Unit {0}) Status → Type 0
 RequestsLeadTo first faults size n stands left written (Ok done) = BetweenRequests first faults size n stands left written
 RequestsLeadTo first faults size n stands left written (Err status) = TalkEnds first faults stands left written status
-
--- More was asked for when these messages had come, and all that was due was told. (Nothing is kept back.)
-pub record IsToldBy (first : Beginning) (faults : List Line) (ask : Asked) : Type 0 where
-  pub far : SessionSoFar first faults
-  pub written_is : ask.written ≡ Some (first.report ++ told_in far.turns)
 
 -- The reply to a request that was done is told, whole or in part; a client that leaves is told nothing.
 abbrev pub ReplyRule : (written written' : Option (List ℕ)) → NbdOperation → (reply : List ℕ) → Result (Unit {0}) Status → Type 0

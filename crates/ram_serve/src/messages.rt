@@ -9,6 +9,9 @@ use ram_outside::Conversation;
 use ram_receive::{Received, receive};
 use ram_report::hand_over;
 
+/// How many messages a session has at most.
+pub const MOST_MESSAGES: u64 = u64::MAX;
+
 /// Hands a message to the client.
 ///
 /// # Answers

@@ -7,12 +7,13 @@ ghost use Rattle.ram_machine.specs.States.{Served, Disc};
 ghost use Rattle.ram_machine.specs.Inserted.{Stands, faults_of};
 ghost use Rattle.ram_script.specs.Progress.{Beginning};
 ghost use Rattle.ram_transmission.specs.Requests.{Fits};
-ghost use Rattle.ram_serve.specs.declared.transmission.TheConstants.{MOST_REQUESTS};
+ghost use Rattle.ram_serve.specs.declared.messages.TheConstants.{MOST_MESSAGES};
 ghost use Rattle.ram_serve.specs.Rooms.{HasMessageRoom};
-ghost use Rattle.ram_serve.specs.Turns.{BetweenRequests, RequestsLeadTo, IsToldBy, ReplyRule, ReplyCount, AnswerRule, TurnCounts, counts_now};
+ghost use Rattle.ram_session.specs.Session.{IsToldBy};
+ghost use Rattle.ram_serve.specs.Turns.{BetweenRequests, RequestsLeadTo, ReplyRule, ReplyCount, AnswerRule, TurnCounts, counts_now};
 
 use crate::incoming::{Incoming, take_request};
-use crate::messages::tell;
+use crate::messages::{MOST_MESSAGES, tell};
 use crate::rooms::MessageRooms;
 use model_nbd::NbdOperation;
 use ram_machine::status::Status;
@@ -21,20 +22,17 @@ use ram_outside::Conversation;
 use ram_script::status_of;
 use ram_transmission::answer_request;
 
-/// How many requests a session has at most.
-pub const MOST_REQUESTS: u64 = u64::MAX;
-
 /// Answers the requests of a client to a disc of `size` bytes, one after another, until the session ends.
 ///
 /// # Clauses
 ///
-/// - `turn` (`RequestsLeadTo`): from what stands between two requests: how the session ends; or `MOST_REQUESTS` more were answered.
+/// - `turn` (`RequestsLeadTo`): from what stands between two requests: how the session ends; or `MOST_MESSAGES` more were answered.
 /// - `counts` (`TurnCounts`): the count that tells why the session ends rose, and no other.
 /// - `asks` (`IsToldBy`): whenever more was asked for, the replies to all messages that had come were written.
 ///
 /// # Answers
 ///
-/// - `Ok`: as many requests as a session has at most were answered. (`RequestsLeadTo`)
+/// - `Ok`: as many requests as a session has messages at most were answered. (`RequestsLeadTo`)
 /// - `Err`: the session ends. (`RequestsLeadTo`)
 /// - `Done`, `Script`, `ImageFault`, `SourceFault`, `SinkFault`, `Differs`, `Usage`, `NoMemory`, `NotADisc`: as for `serve_request`.
 ///   (`RequestsLeadTo`)
@@ -49,7 +47,7 @@ pub fn serve_requests<D: Drive, T: Conversation>(
     ensures turn { (first : Beginning) (faults : List Line) (n : ℕ)
         → BetweenRequests first faults size n (Stands D.Caching D.lies_in D.Image.Image inserted.old)
         (T.left talk.old) (T.Sink.Sink.written (T.report talk.old))
-        → RequestsLeadTo first faults size (n + MOST_REQUESTS) (Stands D.Caching D.lies_in D.Image.Image inserted.new)
+        → RequestsLeadTo first faults size (n + MOST_MESSAGES) (Stands D.Caching D.lies_in D.Image.Image inserted.new)
         (T.left talk.new) (T.Sink.Sink.written (T.report talk.new)) result }
     ensures counts { TurnCounts
         (counts_now T.Conversation T.Sink.Sink talk.old (faults_of D.Caching D.Image.Image inserted.old))
@@ -61,7 +59,7 @@ pub fn serve_requests<D: Drive, T: Conversation>(
     ensures room { HasMessageRoom rooms.new }
 {
     let mut answered: u64 = 0;
-    while answered < MOST_REQUESTS {
+    while answered < MOST_MESSAGES {
         match serve_request(inserted, size, talk, rooms) {
             Ok(()) => {}
             Err(status) => return Err(status),

@@ -1,11 +1,12 @@
 -- A whole session of a client, and what stands with each status when it ends. For the main clause of the word that serves a client.
 -- (This project's own, as all here.)
-use Rattle.std.specs.Prelude.{◌≡◌, ℕ, ◌<◌, ◌⊎◌, Option, Some, Ok, Err, List, [], ◌∷◌, ◌++◌, length, take}
+use Rattle.std.specs.Prelude.{◌≡◌, ℕ, ◌-◌, ◌^◌, ◌<◌, ◌≤◌, ◌⊎◌, Option, Some, Ok, Err, List, [], ◌∷◌, ◌++◌, length, take}
 use Rattle.std.specs.Io.KnownBytes.{prepend_known}
 use Rattle.model_nbd.specs.Messages.{greeting, Request, IsRequest, request_bytes}
 use Rattle.model_nbd.specs.Handshake.{Serving}
 use Rattle.model_nbd.specs.Operations.{request_asks}
 use Rattle.model_nbd.specs.Commands.{Command, commands_of}
+use Rattle.ram_outside.specs.Conversation.{Asked}
 use Rattle.ram_text.specs.declared.script.Line.{Line}
 use Rattle.ram_text.specs.declared.script.Line.TheVariants as lines
 use Rattle.ram_machine.specs.declared.reply.Reply.{Reply}
@@ -43,6 +44,11 @@ abbrev pub earlier : List Turned → List ℕ
 earlier [] = []
 earlier (turned ∷ before) = told_in before
 
+-- More was asked for when these messages had come, and all that was due was told. (Nothing is kept back.)
+pub record IsToldBy (first : Beginning) (faults : List Line) (ask : Asked) : Type 0 where
+  pub far : SessionSoFar first faults
+  pub written_is : ask.written ≡ Some (first.report ++ told_in far.turns)
+
 -- How a session ends, of which so much came: what is left to come, what is written, and which states may be left.
 module _ {first : Beginning} {faults : List Line} (far : SessionSoFar first faults) (leaves : State → Type 0)
     (left written : Option (List ℕ)) where
@@ -57,10 +63,12 @@ module _ {first : Beginning} {faults : List Line} (far : SessionSoFar first faul
     pub ended : (far.phase ≡ Left) ⊎ (far.rest ≡ [])
     pub at : IsLeftAt []
 
-  -- The protocol has no answer to the last message; or what follows it is no message, or only a part of one.
+  -- The protocol has no answer to the last message; or what follows it is no message, or only a part of one; or as many messages came as
+  -- a session has at most.
   abbrev pub BreaksProtocol : Type 0
   BreaksProtocol = ((far.phase ≡ Violation) × IsLeftAt [])
       ⊎ ((came : List ℕ) × (0 < length came) × BeginsNoMessage far.phase far.rest × IsLeftAt came)
+      ⊎ ((2 ^ 64 - 1 ≤ length far.turns) × IsLeftAt [])
 
   -- The source failed, and what it gave of what follows is no whole message.
   pub record IsCutBySource : Type 0 where

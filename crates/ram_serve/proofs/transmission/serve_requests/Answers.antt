@@ -1,9 +1,12 @@
 use Rattle.std.proofs.Common.{arith, refl, ◌+◌, ◌∙◌}
 use Rattle.ram_outside.proofs.Additions.{added_none}
+use Rattle.model_nbd.specs.Handshake.{Serving}
 use Rattle.ram_machine.specs.Inserted.{Stands}
-use Rattle.ram_serve.specs.Turns.{IsToldBy}
-use Rattle.ram_serve.specs.declared.transmission.TheConstants.{MOST_REQUESTS}
-use Rattle.ram_serve.proofs.Served.{asks_told, between_as}
+use Rattle.ram_session.specs.Talk.{Transmission}
+use Rattle.ram_session.specs.Session.{IsToldBy}
+use Rattle.ram_serve.specs.declared.messages.TheConstants.{MOST_MESSAGES}
+use Rattle.ram_serve.proofs.Talked.{asks_told}
+use Rattle.ram_serve.proofs.Served.{between_as}
 use Rattle.ram_serve.proofs.transmission.serve_requests.Goals as goal
 
 pub loop-answered-init : goal.loop-answered-init
@@ -24,9 +27,9 @@ returns-in-Err-clause-turn g c first faults n b =
 
 pub returns-in-Err-clause-asks : goal.returns-in-Err-clause-asks
 returns-in-Err-clause-asks g c first faults n b =
-    asks_told first faults c.args.size (n + c.loop-answered.answered) (Stands g.D.Caching g.D.Drive.lies_in g.D.Image.Image c.loop-answered.inserted)
+    asks_told first faults (Serving c.args.size) (n + c.loop-answered.answered) (Stands g.D.Caching g.D.Drive.lies_in g.D.Image.Image c.loop-answered.inserted)
     (g.T.Conversation.left c.loop-answered.talk) (g.T.Sink.Sink.written (g.T.Conversation.report c.loop-answered.talk))
-    (c.loop-answered.invariant.between first faults n b) (g.T.Conversation.asked c.args.talk.now) (g.T.Conversation.asked c.loop-answered.talk)
+    Transmission (c.loop-answered.invariant.between first faults n b).between (g.T.Conversation.asked c.args.talk.now) (g.T.Conversation.asked c.loop-answered.talk)
     (g.T.Conversation.asked c.serve_request.new.talk) (c.loop-answered.invariant.asks first faults n b) c.serve_request.ensures.asks
 
 pub loop-answered-preserved : goal.loop-answered-preserved
@@ -42,15 +45,15 @@ loop-answered-preserved g c = record {
     image = c.in-Ok.ensures.counts.image ∙ c.loop-answered.invariant.counts.image;
   };
   asks = λ first faults n b.
-      asks_told first faults c.args.size (n + c.loop-answered.answered) (Stands g.D.Caching g.D.Drive.lies_in g.D.Image.Image c.loop-answered.inserted)
+      asks_told first faults (Serving c.args.size) (n + c.loop-answered.answered) (Stands g.D.Caching g.D.Drive.lies_in g.D.Image.Image c.loop-answered.inserted)
       (g.T.Conversation.left c.loop-answered.talk) (g.T.Sink.Sink.written (g.T.Conversation.report c.loop-answered.talk))
-      (c.loop-answered.invariant.between first faults n b) (g.T.Conversation.asked c.args.talk.now) (g.T.Conversation.asked c.loop-answered.talk)
+      Transmission (c.loop-answered.invariant.between first faults n b).between (g.T.Conversation.asked c.args.talk.now) (g.T.Conversation.asked c.loop-answered.talk)
       (g.T.Conversation.asked c.serve_request.new.talk) (c.loop-answered.invariant.asks first faults n b) c.serve_request.ensures.asks;
   room = c.serve_request.ensures.room;
 }
 
 pub returns-clause-turn : goal.returns-clause-turn
 returns-clause-turn g c first faults n b =
-    between_as first faults c.args.size (n + c.loop-answered.answered) (n + MOST_REQUESTS) (Stands g.D.Caching g.D.Drive.lies_in g.D.Image.Image c.loop-answered.inserted)
+    between_as first faults c.args.size (n + c.loop-answered.answered) (n + MOST_MESSAGES) (Stands g.D.Caching g.D.Drive.lies_in g.D.Image.Image c.loop-answered.inserted)
     (g.T.Conversation.left c.loop-answered.talk) (g.T.Sink.Sink.written (g.T.Conversation.report c.loop-answered.talk))
     (omega (arith, c.loop-answered-test.false, c.loop-answered.invariant.few)) (c.loop-answered.invariant.between first faults n b)

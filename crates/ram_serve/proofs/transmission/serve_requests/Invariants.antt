@@ -5,13 +5,14 @@ use Rattle.ram_machine.specs.Inserted.{Stands, faults_of}
 use Rattle.ram_script.specs.Progress.{Beginning}
 use Rattle.ram_script.specs.RunCounts.{SameCounts}
 use Rattle.ram_serve.specs.Rooms.{HasMessageRoom}
-use Rattle.ram_serve.specs.Turns.{BetweenRequests, IsToldBy, counts_now}
-use Rattle.ram_serve.specs.declared.transmission.TheConstants.{MOST_REQUESTS}
+use Rattle.ram_session.specs.Session.{IsToldBy}
+use Rattle.ram_serve.specs.Turns.{BetweenRequests, counts_now}
+use Rattle.ram_serve.specs.declared.messages.TheConstants.{MOST_MESSAGES}
 use Rattle.ram_serve.proofs.transmission.serve_requests.Given as goal
 
 abbrev pub invariant-loop-answered : goal.invariant-loop-answered
 invariant-loop-answered g l = record {
-  few : l.answered ≤ MOST_REQUESTS;
+  few : l.answered ≤ MOST_MESSAGES;
   between : (first : Beginning) (faults : List Line) (n : ℕ)
       → BetweenRequests first faults l.fn.size n (Stands g.D.Caching g.D.Drive.lies_in g.D.Image.Image l.fn.inserted)
       (g.T.Conversation.left l.fn.talk) (g.T.Sink.Sink.written (g.T.Conversation.report l.fn.talk))
@@ -27,4 +28,4 @@ invariant-loop-answered g l = record {
 }
 
 abbrev pub decreases-loop-answered : goal.decreases-loop-answered
-decreases-loop-answered g l = MOST_REQUESTS - l.answered
+decreases-loop-answered g l = MOST_MESSAGES - l.answered
