@@ -1,0 +1,2 @@
+mod OpeningLines
+mod Openings
