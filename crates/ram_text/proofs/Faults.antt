@@ -119,7 +119,7 @@ module _ (word : List ℕ) where
   read_so : eqb (get_or (without_return word) 0 0) 35 ≡ false → reading_of (without_return word) ≡ line_of (words_of (without_return word))
   read_so no_sign = rw no_sign refl
 
-  found_word : (line : Line) → fault_in (without_return word) ≡ Some line → IsFaultWord word line
+  pub found_word : (line : Line) → fault_in (without_return word) ≡ Some line → IsFaultWord word line
   found_word line h =
       let t = tested_none (eqb (get_or (without_return word) 0 0) 35) (fault_of (words_of (without_return word))) line h in
       let r = fault_reads (words_of (without_return word)) line t.1 in
@@ -129,7 +129,7 @@ module _ (word : List ℕ) where
       tested_none true o line h = cc
       tested_none false o line h = (refl, h)
 
-  given_word : (line : Line) → IsFaultWord word line → fault_in (without_return word) ≡ Some line
+  pub given_word : (line : Line) → IsFaultWord word line → fault_in (without_return word) ≡ Some line
   given_word line is = by (eqb (get_or (without_return word) 0 0) 35) refl
     where
       by : (b : Bool) → eqb (get_or (without_return word) 0 0) 35 ≡ b → fault_in (without_return word) ≡ Some line
