@@ -4,7 +4,7 @@ ghost use Rattle.std.specs.Prelude.{◌≡◌, ℕ, ◌≤◌, Option, List};
 ghost use Rattle.model_medium.specs.declared.WornBlock.{WornBlock};
 ghost use Rattle.model_medium.specs.declared.ArmedCut.{ArmedCut};
 ghost use Rattle.ram_medium.specs.Laws.{ControlLaws, machine_shown};
-ghost use Rattle.ram_medium.specs.Control.{Told, Fails, Arms, FailRule, WearRule, with_armed_cut};
+ghost use Rattle.ram_medium.specs.Control.{Told, Fails, Arms, Syncs, FailRule, WearRule, SyncOnMedium, with_armed_cut};
 
 use crate::blocks::Medium;
 use model_medium::Fate;
@@ -35,6 +35,15 @@ pub enum Arm {
     },
     /// As many arms stand as can.
     Full,
+}
+
+/// How the wait until all that was written lasts ended.
+#[derive(Clone, Copy, Debug, PartialEq, Eq)]
+pub enum SyncEnd {
+    /// It lasts.
+    Done,
+    /// What the medium lies on failed, and counted it. The power is off.
+    Failed,
 }
 
 /// A medium that is told when its blocks fail and when its power is cut. Arms and the armed cut outlive a power
@@ -105,6 +114,26 @@ pub trait MediumControl: Medium {
         ensures rule { machine_shown Self.world arms armed_cut self.new
             ≡ with_armed_cut n fate (machine_shown Self.world arms armed_cut self.old) }
         ensures told { was_told self.old self.new Arms }
+        ensures as_many { Self.block_count self.new ≡ Self.block_count self.old };
+
+    /// Waits until all that was written is where no failure of the system can lose it, with the power on or off. It is no
+    /// use: nothing is counted and no arm counts down.
+    ///
+    /// # Clauses
+    ///
+    /// - `rule` (`SyncOnMedium`): `Done`: nothing changed. `Failed`: what the medium lies on failed and counted it; the power is
+    ///   off, and nothing else changed.
+    /// - `never_fails`: it never answers `Failed`, since this medium lies on nothing.
+    ///
+    /// # Answers
+    ///
+    /// - `Done`: what the medium lies on says that it lasts. Then: nothing changed. (`SyncOnMedium`)
+    /// - `Failed`: what the medium lies on counted a failure. Then: the power is off, and no cell changed; what lasts is not said.
+    ///   (`FailsInSync`)
+    fn sync(&mut self) -> SyncEnd
+        ensures rule { SyncOnMedium (machine_shown Self.world arms armed_cut self.old)
+            (machine_shown Self.world arms armed_cut self.new) result }
+        ensures told { was_told self.old self.new (Syncs result) }
         ensures as_many { Self.block_count self.new ≡ Self.block_count self.old };
 
     ghost control_laws: { ControlLaws Self.world Self.reaches Self.takes arms armed_cut };

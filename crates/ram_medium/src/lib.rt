@@ -24,8 +24,8 @@
 //!
 //! A controllable medium, in `src/control.rt`:
 //!
-//! - all three, `told`: what was done (`was_told` of `Fails` or `Arms`); what that makes of the bytes that the medium lies on, a
-//!   medium over them says.
+//! - all four, `told`: what was done (`was_told` of `Fails`, `Arms` or `Syncs`); what that makes of the bytes that the medium lies
+//!   on, a medium over them says.
 //! - `control_laws`, `exactly`: what each event does exactly. A use is counted; then the arms of its block count down, and a
 //!   block whose arm runs out is dead in that very use; then the armed cut counts down.
 //! - `reach`: what can follow by k uses: a cell dies by an arm alone, the armed cut falls just at its use, and one cell at most
@@ -52,7 +52,7 @@ mod slots;
 mod whole_blocks;
 
 pub use blocks::Medium;
-pub use control::{Arm, FailEnd, MediumControl};
+pub use control::{Arm, FailEnd, MediumControl, SyncEnd};
 pub use countdown::{Armed, Due, MOST_ARMS, limits_are_these};
 pub use memory::MemMedium;
 pub use model_medium::{ArmedCut, Fate, ReadEnd, WornBlock, WriteEnd};

@@ -6,7 +6,7 @@ ghost use Rattle.ram_bytes.specs.declared.block.TheConstants.{BLOCK_BYTES};
 ghost use Rattle.ram_medium.specs.Slots.{slot_cells};
 
 use crate::blocks::Medium;
-use crate::control::{Arm, FailEnd, MediumControl};
+use crate::control::{Arm, FailEnd, MediumControl, SyncEnd};
 use crate::countdown::Armed;
 use crate::slots::{Slot, blank_slots, cut_slot, kill_where, read_slot, write_slot};
 use model_medium::{Fate, ReadEnd, WriteEnd};
@@ -218,7 +218,7 @@ impl Medium for MemMedium {
 
 impl MediumControl for MemMedium {
     ghost use Rattle.std.specs.Prelude.{◌≢◌, vec_len};
-    ghost use Rattle.ram_medium.specs.Control.{FailRule, WearRule, with_armed_cut};
+    ghost use Rattle.ram_medium.specs.Control.{FailRule, WearRule, SyncOnMedium, with_armed_cut};
     ghost use Rattle.ram_medium.specs.Countdown.{arms_of, armed_cut_of};
     ghost use Rattle.ram_medium.specs.Memory.{mem_machine, failing_of};
 
@@ -261,6 +261,15 @@ impl MediumControl for MemMedium {
         ensures as_many { vec_len self.new.slots ≡ vec_len self.old.slots }
     {
         self.armed.arm_cut(n, fate);
+    }
+
+    fn sync(&mut self) -> SyncEnd
+        ensures rule { SyncOnMedium (mem_machine self.old) (mem_machine self.new) result }
+        ensures never_fails { result ≢ SyncEnd.Failed }
+        ensures same_names { failing_of self.new ≡ failing_of self.old }
+        ensures as_many { vec_len self.new.slots ≡ vec_len self.old.slots }
+    {
+        SyncEnd::Done
     }
 
     ghost control_laws = { record {
