@@ -12,7 +12,7 @@ use Rattle.model_medium.specs.declared.WriteEnd.TheVariants as writes
 use Rattle.model_image.specs.Writes.{with_state, dead_state, worn_bytes, bytes_left, StopsInBytes, IsBeforeOrAfter}
 use Rattle.ram_outside.specs.Past.{Moment}
 use Rattle.ram_image.specs.Moments.{PassesOnly}
-use Rattle.ram_medium.specs.Control.{Told, Fails, Arms}
+use Rattle.ram_medium.specs.Control.{Told, Fails, Arms, Syncs}
 use Rattle.ram_medium.specs.declared.control.FailEnd.{FailEnd}
 use Rattle.ram_medium.specs.declared.control.FailEnd.TheVariants as fails
 
@@ -68,10 +68,11 @@ FailBytes block before after (fails.NoBlock blocks) = after ≡ before
 FailBytes block before after fails.Failed =
     WhereKnown before after (λ held held'. IsBeforeOrAfter held (with_state block dead_state held) held')
 
--- What is done to the medium beside its uses makes this of the bytes: where something is armed they stay.
+-- What is done to the medium beside its uses makes this of the bytes: where something is armed, or all is to last, they stay.
 abbrev pub ToldBytes : Option (List ℕ) → Option (List ℕ) → Told → Type 0
 ToldBytes before after (Fails block end) = FailBytes block before after end
 ToldBytes before after Arms = after ≡ before
+ToldBytes before after (Syncs end) = after ≡ before
 
 -- At each moment within an event the image is one that its failure could leave in this event.
 abbrev pub PastAt : Machine → ℕ → Option (List ℕ) → (past past' : Option (List Moment)) → Event → Type 0

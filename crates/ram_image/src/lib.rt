@@ -52,7 +52,7 @@
 //! - a write, `Cut` with fate `new`: as with `Done`.
 //! - a write, `Cut` with fate `torn`: its state byte becomes that of a torn block, and its data stay the old ones. Under a dead
 //!   block nothing changes.
-//! - `Off`, power on, power off, `wear`, `arm_cut`, `fail` without such a block: none.
+//! - `Off`, power on, power off, `wear`, `arm_cut`, `sync`, `fail` without such a block: none.
 //! - `fail`, `Done`: the state byte becomes that of a dead block; the data stay.
 //! - a read or a `fail` in which the image failed: none, or as above.
 //! - a write in which the image failed: none, or the block's alone: each byte of the data is the old or the new one, and the

@@ -15,7 +15,9 @@ use crate::cells::{
     GoodRow, StateRead, count_good, kill_cell, kill_where, leave_cell, read_data, read_state,
 };
 use ram_bytes::{BLOCK_BYTES, Block, Budget, MemoryRefused};
-use ram_medium::{Arm, Armed, Due, FailEnd, Fate, Medium, MediumControl, ReadEnd, WriteEnd};
+use ram_medium::{
+    Arm, Armed, Due, FailEnd, Fate, Medium, MediumControl, ReadEnd, SyncEnd, WriteEnd,
+};
 use ram_outside::{Image, Moved};
 use ram_zones::Geometry;
 use std::mem::{size_of, swap};
@@ -518,9 +520,10 @@ impl<I: Image> Medium for ImageMedium<I> {
 
 impl<I: Image> MediumControl for ImageMedium<I> {
     ghost use Rattle.model_geometry.specs.Geometry.{total};
-    ghost use Rattle.ram_medium.specs.Control.{FailRule, WearRule, with_armed_cut};
+    ghost use Rattle.ram_medium.specs.Control.{FailRule, WearRule, SyncOnMedium, with_armed_cut};
     ghost use Rattle.model_image.specs.Writes.{with_state, dead_state, IsBeforeOrAfter};
     ghost use Rattle.ram_image.specs.EventBytes.{FailBytes, ToldBytes};
+    ghost use Rattle.ram_image.specs.Moments.{IsSame};
     ghost use Rattle.ram_image.specs.Medium.{shape_of_medium, machine_in, bytes_in, PassesIn};
 
     ghost arms = { λ medium. arms_of medium.armed.value };
@@ -587,6 +590,28 @@ impl<I: Image> MediumControl for ImageMedium<I> {
         ensures same_shape { shape_of_medium self.new ≡ shape_of_medium self.old }
     {
         self.armed.arm_cut(n, fate);
+    }
+
+    /// # Clauses
+    ///
+    /// - `rule`, `same_shape`, `bytes`: all that `ram_medium` says of a controllable medium; and no byte changes.
+    /// - `past`: at each moment within it the image has the bytes that it had.
+    /// - `told` (`ToldBytes`): the bytes again, in the words of the trait, for those above who do not know that the medium is an
+    ///   image's.
+    fn sync(&mut self) -> SyncEnd
+        ensures rule { SyncOnMedium (machine_in self.old) (machine_in self.new) result }
+        ensures bytes { bytes_in self.new ≡ bytes_in self.old }
+        ensures past { PassesIn IsSame self.old self.new }
+        ensures as_many { total (shape_of_medium self.new) ≡ total (shape_of_medium self.old) }
+        ensures same_shape { shape_of_medium self.new ≡ shape_of_medium self.old }
+    {
+        match self.image.sync() {
+            Moved::Done => SyncEnd::Done,
+            Moved::Failed => {
+                self.powered = false;
+                SyncEnd::Failed
+            }
+        }
     }
 
     ghost control_laws = { record {
