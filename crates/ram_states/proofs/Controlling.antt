@@ -1,5 +1,5 @@
 -- What a drive stands for, and what its state keeps, while blocks of its medium are made to fail or are armed.
-use Rattle.std.proofs.Common.{◌≡◌, ℕ, List, inl, inr, sym, ap, ◌∙◌, subst}
+use Rattle.std.proofs.Common.{◌≡◌, ℕ, List, inl, inr, sym, ap, ◌∙◌, subst, refl, arith}
 use Rattle.model_geometry.specs.Geometry.{Shape, total, dds_block, sdl_block}
 use Rattle.model_lists.specs.Texts.{IsDdsText}
 use Rattle.model_medium.specs.Cells.{Cell, Dead, IsSameOrDead, cell_at}
@@ -14,13 +14,15 @@ use Rattle.model_volume.specs.Given.{GivesNone}
 use Rattle.model_drive.specs.Shown.{Shown, IsOn, cells_in, StandsFor}
 use Rattle.model_drive.specs.Parts.{KeepsLists, AreSameOrDead}
 use Rattle.model_drive.proofs.Dying.{one_dies, given_dies, same_on, same_off, same_candidates}
-use Rattle.ram_medium.specs.Control.{FailRule, WearRule}
+use Rattle.ram_medium.specs.Control.{FailRule, WearRule, FailsInSync, SyncOnMedium}
 use Rattle.ram_medium.specs.declared.control.FailEnd.{FailEnd}
 use Rattle.ram_medium.specs.declared.control.FailEnd.TheVariants as fails
+use Rattle.ram_medium.specs.declared.control.SyncEnd.{SyncEnd}
+use Rattle.ram_medium.specs.declared.control.SyncEnd.TheVariants as syncs
 use Rattle.ram_medium.specs.declared.control.Arm.{Arm}
 use Rattle.ram_medium.specs.declared.control.Arm.TheVariants as arming
 use Rattle.ram_transfer.specs.Shown.{shown_without}
-use Rattle.ram_states.specs.Control.{KeepsMemory, LosesMemory, FailStands}
+use Rattle.ram_states.specs.Control.{KeepsMemory, LosesMemory, FailStands, SyncOnDrive, SyncStands}
 
 -- ---- cells that die
 
@@ -57,6 +59,35 @@ pub worn_world : (total : ℕ) (old new : Machine) (worn : WornBlock) (end : Arm
 worn_world total old new worn arming.Set rule = ap (λ (m : Machine). m.world) rule.2
 worn_world total old new worn (arming.NoBlock blocks) rule = ap (λ (m : Machine). m.world) rule.2
 worn_world total old new worn arming.Full rule = ap (λ (m : Machine). m.world) rule.2
+
+-- ---- all is to last
+
+-- no cell of a medium that did not change has
+pub cells_stay : (old new : Machine) → new ≡ old → AreSameOrDead old.world.cells new.world.cells
+cells_stay old new same = λ other. inl (ap (λ (m : Machine). cell_at m.world.cells other) same)
+
+-- a failure in it is one that a block's failure may end with
+fails_alike : (old new : Machine) → FailsInSync old new → FailRule 1 old new 0 fails.Failed
+fails_alike old new failed = (
+  omega arith,
+  record {
+    turns_off = failed.turns_off;
+    fault = failed.fault;
+    same_label = failed.same_label;
+    as_known = failed.as_known;
+    uses_same = failed.uses_same;
+    cuts_same = failed.cuts_same;
+    others = λ other ne. ap (λ (l : List Cell). cell_at l other) failed.same_cells;
+    left = inl (ap (λ (l : List Cell). cell_at l 0) failed.same_cells);
+    arms_same = failed.arms_same;
+    cut_same = failed.cut_same;
+  },
+)
+
+-- what a drive shows whose power is off
+pub off_synced : (shape : Shape) (old new : Machine) (end : SyncEnd) → SyncOnMedium old new end → SyncOnDrive (shown_without shape old) (shown_without shape new) end
+off_synced shape old new syncs.Done same = ap (λ (m : Machine). shown_without shape m) same
+off_synced shape old new syncs.Failed failed = (failed, record { same_shape = refl; no_lists = refl; no_mark = refl; no_buffer = refl })
 
 -- ---- what the drive stands for
 
@@ -95,3 +126,8 @@ module _ (old new : Shown) where
   stands_off total block fails.Done keeps loses rule = stands_done total block keeps rule
   stands_off total block (fails.NoBlock blocks) keeps loses rule = stands_armed keeps (ap (λ (m : Machine). m.world) rule.2)
   stands_off total block fails.Failed keeps loses rule = stands_failed total block loses rule
+
+  -- all was to last
+  pub stands_synced : (end : SyncEnd) → SyncOnDrive old new end → (s : Standing) → StandsFor old s → SyncStands new s end
+  stands_synced syncs.Done same s stood = subst (λ (shown : Shown). StandsFor shown s) (sym same) stood
+  stands_synced syncs.Failed rule s stood = stands_failed 1 0 rule.1 (fails_alike old.medium new.medium rule.0) s stood

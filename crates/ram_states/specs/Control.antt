@@ -1,12 +1,14 @@
--- What is done to a drive's medium beside its host's calls: for `fail`, `wear` and `arm_cut`. (This project's own, as all
+-- What is done to a drive's medium beside its host's calls: for `fail`, `wear`, `arm_cut` and `sync`. (This project's own, as all
 -- here.)
 use Rattle.std.specs.Prelude.{◌≡◌, ℕ, None, []}
 use Rattle.model_geometry.specs.Geometry.{total}
 use Rattle.model_sectors.specs.Discs.{Standing, Off, candidates}
 use Rattle.model_drive.specs.Shown.{Shown, StandsFor}
-use Rattle.ram_medium.specs.Control.{FailRule}
+use Rattle.ram_medium.specs.Control.{FailRule, FailsInSync}
 use Rattle.ram_medium.specs.declared.control.FailEnd.{FailEnd}
 use Rattle.ram_medium.specs.declared.control.FailEnd.TheVariants as fails
+use Rattle.ram_medium.specs.declared.control.SyncEnd.{SyncEnd}
+use Rattle.ram_medium.specs.declared.control.SyncEnd.TheVariants as syncs
 
 -- all that a drive shows beside its medium is as before
 pub record KeepsMemory (old new : Shown) : Type 0 where
@@ -37,3 +39,14 @@ abbrev pub FailStands : Shown → Standing → FailEnd → Type 0
 FailStands new s fails.Done = StandsFor new s
 FailStands new s (fails.NoBlock blocks) = StandsFor new s
 FailStands new s fails.Failed = StandsFor new (Off (candidates s))
+
+-- What the wait until all lasts does to a drive, by its answer: nothing; but where what the medium lies on failed, it does to the
+-- medium what it does to any, the power is off, and nothing is kept.
+abbrev pub SyncOnDrive : Shown → Shown → SyncEnd → Type 0
+SyncOnDrive old new syncs.Done = new ≡ old
+SyncOnDrive old new syncs.Failed = FailsInSync old.medium new.medium × LosesMemory old new
+
+-- What the drive stands for after that: the same, and where the power went off the same as its candidates.
+abbrev pub SyncStands : Shown → Standing → SyncEnd → Type 0
+SyncStands new s syncs.Done = StandsFor new s
+SyncStands new s syncs.Failed = StandsFor new (Off (candidates s))

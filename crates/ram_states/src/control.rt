@@ -1,16 +1,16 @@
-//! What is done to the medium of a drive beside its host's calls, in whatever state it is: a block of it fails, is worn, or a
-//! cut of the power is armed.
+//! What is done to the medium of a drive beside its host's calls, in whatever state it is: a block of it fails, is worn, a cut of
+//! the power is armed, or all that was written is made to last.
 
 ghost use Rattle.std.specs.Prelude.{◌≡◌, ◌≤◌};
 ghost use Rattle.model_geometry.specs.Geometry.{total};
 ghost use Rattle.model_sectors.specs.Discs.{Standing};
 ghost use Rattle.model_drive.specs.Shown.{StandsFor};
-ghost use Rattle.ram_medium.specs.Control.{Fails, Arms, WearRule, with_armed_cut};
-ghost use Rattle.ram_states.specs.Control.{KeepsMemory, FailOnDrive, FailStands};
+ghost use Rattle.ram_medium.specs.Control.{Fails, Arms, Syncs, WearRule, with_armed_cut};
+ghost use Rattle.ram_states.specs.Control.{KeepsMemory, FailOnDrive, FailStands, SyncOnDrive, SyncStands};
 ghost use Rattle.ram_states.specs.Shown.{shown_off, shown_bare, shown_ready, shown_state, medium_under};
 
 use crate::states::{NotFormatted, PoweredOff, Ready, State};
-use ram_medium::{Arm, FailEnd, Fate, MediumControl};
+use ram_medium::{Arm, FailEnd, Fate, MediumControl, SyncEnd};
 
 impl<M: MediumControl> PoweredOff<M> {
     /// [`State::fail`] with the power off: the state stays in any case.
@@ -21,6 +21,15 @@ impl<M: MediumControl> PoweredOff<M> {
             → FailStands (shown_state result.0) s result.1 }
     {
         let end = self.medium.fail(block);
+        (State::Off(self), end)
+    }
+
+    /// [`State::sync`] with the power off: the state stays in any case.
+    fn sync(mut self) -> (State<M>, SyncEnd)
+        ensures rule { SyncOnDrive (shown_off self) (shown_state result.0) result.1 }
+        ensures told { M.was_told self.medium (medium_under result.0) (Syncs result.1) }
+    {
+        let end = self.medium.sync();
         (State::Off(self), end)
     }
 }
@@ -48,6 +57,29 @@ impl<M: MediumControl> Ready<M> {
                     memory,
                 };
                 (State::Off(off), FailEnd::Failed)
+            }
+        }
+    }
+
+    /// [`State::sync`] of a formatted disc.
+    fn sync(mut self) -> (State<M>, SyncEnd)
+        ensures rule { SyncOnDrive (shown_ready self) (shown_state result.0) result.1 }
+        ensures told { M.was_told self.medium (medium_under result.0) (Syncs result.1) }
+    {
+        match self.medium.sync() {
+            SyncEnd::Done => (State::Ready(self), SyncEnd::Done),
+            SyncEnd::Failed => {
+                let Ready {
+                    medium,
+                    geometry,
+                    memory,
+                } = self;
+                let off = PoweredOff {
+                    medium,
+                    geometry,
+                    memory,
+                };
+                (State::Off(off), SyncEnd::Failed)
             }
         }
     }
@@ -79,6 +111,30 @@ impl<M: MediumControl> NotFormatted<M> {
                     memory,
                 };
                 (State::Off(off), FailEnd::Failed)
+            }
+        }
+    }
+
+    /// [`State::sync`] of a disc that is not formatted.
+    fn sync(mut self) -> (State<M>, SyncEnd)
+        ensures rule { SyncOnDrive (shown_bare self) (shown_state result.0) result.1 }
+        ensures told { M.was_told self.medium (medium_under result.0) (Syncs result.1) }
+    {
+        match self.medium.sync() {
+            SyncEnd::Done => (State::NotFormatted(self), SyncEnd::Done),
+            SyncEnd::Failed => {
+                let NotFormatted {
+                    medium,
+                    geometry,
+                    mark: _,
+                    memory,
+                } = self;
+                let off = PoweredOff {
+                    medium,
+                    geometry,
+                    memory,
+                };
+                (State::Off(off), SyncEnd::Failed)
             }
         }
     }
@@ -161,6 +217,32 @@ impl<M: MediumControl> State<M> {
             State::Off(off) => off.medium.arm_cut(n, fate),
             State::Ready(ready) => ready.medium.arm_cut(n, fate),
             State::NotFormatted(bare) => bare.medium.arm_cut(n, fate),
+        }
+    }
+    /// Waits until all that was written is where no failure of the system can lose it: `Done`, and the state stays. What the
+    /// medium lies on failed, and counted it: `Failed`; then the power is off. It is no use of the medium.
+    ///
+    /// # Clauses
+    ///
+    /// - `rule`, `stands`: `SyncOnDrive`, `SyncStands`: after `Done` nothing changed; after `Failed` the power is off, nothing is
+    ///   kept, and the same are candidates.
+    /// - `told`: its medium was told this, and nothing else was done to it (`was_told` of the medium).
+    ///
+    /// # Answers
+    ///
+    /// - `Done`: what the medium lies on says that it lasts. Then: nothing changed. (`SyncOnDrive`, `SyncStands`)
+    /// - `Failed`: what the medium lies on counted a failure. Then: off; lists and buffer are gone, and the disc, or the
+    ///   candidates, are the candidates. (`FailsInSync`, `LosesMemory`, `SyncStands`)
+    pub fn sync(self) -> (State<M>, SyncEnd)
+        ensures rule { SyncOnDrive (shown_state self) (shown_state result.0) result.1 }
+        ensures told { M.was_told (medium_under self) (medium_under result.0) (Syncs result.1) }
+        ensures stands { (s : Standing) → StandsFor (shown_state self) s
+            → SyncStands (shown_state result.0) s result.1 }
+    {
+        match self {
+            State::Off(off) => off.sync(),
+            State::Ready(ready) => ready.sync(),
+            State::NotFormatted(bare) => bare.sync(),
         }
     }
 }
