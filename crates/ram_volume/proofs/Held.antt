@@ -18,8 +18,10 @@ use Rattle.ram_medium.specs.declared.blocks.Medium.{Ghosts}
 use Rattle.ram_medium.specs.declared.control.MediumControl.{Ghosts as ControlGhosts}
 use Rattle.ram_medium.specs.declared.control.FailEnd.{FailEnd}
 use Rattle.ram_medium.specs.declared.control.FailEnd.TheVariants as fails
+use Rattle.ram_medium.specs.declared.control.SyncEnd.{SyncEnd}
+use Rattle.ram_medium.specs.declared.control.SyncEnd.TheVariants as syncs
 use Rattle.ram_transfer.specs.Writing.{WriteSteps}
-use Rattle.ram_states.specs.Control.{FailOnDrive, FailStands}
+use Rattle.ram_states.specs.Control.{FailOnDrive, FailStands, SyncOnDrive, SyncStands}
 use Rattle.ram_states.specs.Reading.{ReadSteps}
 use Rattle.ram_states.specs.Expanding.{ExpandSteps}
 use Rattle.ram_states.specs.Powers.{PowerSteps}
@@ -43,6 +45,11 @@ fail_found new s fails.Failed stands = (Off (candidates s), stands)
 
 pub fail_keeps : (old new : Shown) (block : ℕ) (end : FailEnd) → FailOnDrive old new block end → ((s : Standing) → StandsFor old s → FailStands new s end) → StandsForSome old → StandsForSome new
 fail_keeps old new block end rule stands = still_some old new (fail_known old new block end rule) (λ s stood. fail_found new s end (stands s stood))
+
+-- and so does the wait until all lasts
+pub sync_keeps : (old new : Shown) (end : SyncEnd) → SyncOnDrive old new end → ((s : Standing) → StandsFor old s → SyncStands new s end) → StandsForSome old → StandsForSome new
+sync_keeps old new syncs.Done same stands = subst StandsForSome (sym same)
+sync_keeps old new syncs.Failed rule stands = still_some old new rule.0.as_known (λ s stood. (Off (candidates s), stands s stood))
 
 module _ {M : Type 0} {c : ControlGhosts M} {d : Ghosts M} where
   -- a slot that holds a state

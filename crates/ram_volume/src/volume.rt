@@ -9,7 +9,7 @@ use crate::calls::{
 };
 use crate::holding::{put_in, take_out};
 use ram_bytes::Block;
-use ram_medium::{Arm, FailEnd, Fate, MediumControl};
+use ram_medium::{Arm, FailEnd, Fate, MediumControl, SyncEnd};
 use ram_sectors::{
     Disc, DriveCounts, ExpandOut, FormatOut, Kind, PowerOut, ReadOut, Sectors, WriteOut,
 };
@@ -32,11 +32,11 @@ impl<M: MediumControl> Volume<M> {
     ghost use Rattle.model_sectors.specs.Discs.{Standing};
     ghost use Rattle.model_drive.specs.Shown.{StandsFor};
     ghost use Rattle.ram_medium.specs.Laws.{machine_shown};
-    ghost use Rattle.ram_medium.specs.Control.{Fails, Arms, WearRule, with_armed_cut};
+    ghost use Rattle.ram_medium.specs.Control.{Fails, Arms, Syncs, WearRule, with_armed_cut};
     ghost use Rattle.ram_groups.specs.Layouts.{IsOfKind};
     ghost use Rattle.ram_transfer.specs.Shown.{shown_without};
     ghost use Rattle.ram_volume.specs.Drives.{shown_by, medium_by};
-    ghost use Rattle.ram_states.specs.Control.{FailOnDrive, FailStands, KeepsMemory};
+    ghost use Rattle.ram_states.specs.Control.{FailOnDrive, FailStands, KeepsMemory, SyncOnDrive, SyncStands};
 
     /// A drive of this geometry over its medium, with its power off. It works in this memory, whatever that holds, and takes no
     /// other.
@@ -117,6 +117,27 @@ impl<M: MediumControl> Volume<M> {
         let mut state = take_out(&mut self.state);
         state.arm_cut(n, fate);
         put_in(&mut self.state, state);
+    }
+
+    /// Waits until all that was written is where no failure of the system can lose it, with the power on or off. Where what the
+    /// medium lies on failed, the power is off, nothing is kept in memory, and the disc is a candidate.
+    ///
+    /// # Clauses
+    ///
+    /// - `rule`, `stands`, `told`: as those of its state.
+    ///
+    /// # Answers
+    ///
+    /// As for `State::sync`.
+    pub fn sync(&mut self) -> SyncEnd
+        ensures rule { SyncOnDrive (shown_by self.old) (shown_by self.new) result }
+        ensures told { M.was_told (medium_by self.old) (medium_by self.new) (Syncs result) }
+        ensures stands { (s : Standing) → StandsFor (shown_by self.old) s → SyncStands (shown_by self.new) s result }
+    {
+        let state = take_out(&mut self.state);
+        let (state, end) = state.sync();
+        put_in(&mut self.state, state);
+        end
     }
 
     /// The medium, as the drive leaves it, and the memory.
