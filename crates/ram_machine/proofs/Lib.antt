@@ -44,3 +44,4 @@ pub mod SectorAgain
 pub mod ToldTurns
 pub mod SectorSettled
 pub mod SectorNothing
+pub mod Syncing

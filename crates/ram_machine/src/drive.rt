@@ -8,11 +8,11 @@ ghost use Rattle.ram_image.specs.Opening.{IsRefused};
 ghost use Rattle.ram_medium.specs.Control.{WearRule, with_armed_cut};
 ghost use Rattle.ram_states.specs.Control.{KeepsMemory, FailOnDrive};
 ghost use Rattle.ram_machine.specs.Drive.{OpensDrive, DriveLaws};
-ghost use Rattle.ram_machine.specs.Control.{contents_after_fail};
+ghost use Rattle.ram_machine.specs.Control.{contents_after_fail, contents_after_sync, SyncOnCached};
 
 use crate::rooms::DriveRooms;
 use ram_image::Refused;
-use ram_medium::{Arm, FailEnd, Fate};
+use ram_medium::{Arm, FailEnd, Fate, SyncEnd};
 use ram_outside::Image;
 use ram_sectors::Caching;
 
@@ -94,6 +94,20 @@ pub trait Drive: Caching {
         ensures keeps { KeepsMemory (Self.shows self.old).drive (Self.shows self.new).drive }
         ensures cache { KeepsCache (Self.shows self.old) (Self.shows self.new) }
         ensures stands { (s : Contents) → Self.stands self.old s → Self.stands self.new s };
+
+    /// Waits until all that was written to the image is where no failure of the system can lose it, as `File::sync_data` does, with
+    /// the power on or off. What the cache holds back was not written.
+    ///
+    /// # Answers
+    ///
+    /// - `Done`: the image says that it lasts. Then: nothing changed. (`SyncOnCached`)
+    /// - `Failed`: the image counted a failure. Then: the power is off; no byte changed, and the cache stays. (`FailsInSync`,
+    ///   `SyncOnCached`)
+    fn sync(&mut self) -> SyncEnd
+        ensures rule { SyncOnCached (Self.shows self.old) (Self.shows self.new) result }
+        ensures bytes { lies_in self.new ≡ lies_in self.old }
+        ensures stands { (s : Contents) → Self.stands self.old s
+            → Self.stands self.new (contents_after_sync s result) };
 
     ghost drive_laws: { DriveLaws Self.shows Self.underwent lies_in };
 }

@@ -12,6 +12,7 @@ ghost use Rattle.ram_machine.specs.Replies.{PrintsWhere, power_outcome, fail_out
 ghost use Rattle.ram_machine.specs.States.{State, kind_of, renewed};
 ghost use Rattle.ram_machine.specs.Inserted.{Stands, LeavesImage, faults_of, found_in, data_before, IsAnswered, IsPressAnswered};
 ghost use Rattle.ram_machine.specs.LineFaults.{LineCount};
+ghost use Rattle.ram_machine.specs.Control.{IsSynced, SyncCount};
 ghost use Rattle.ram_machine.specs.Starts.{StartRule};
 
 use crate::drive::Drive;
@@ -21,7 +22,7 @@ use crate::stopped::Stopped;
 use core::mem::replace_with;
 use ram_bytes::Cdb;
 use ram_image::{OpenFault, PressOut, Refused, geometry_in, press};
-use ram_medium::{Arm, FailEnd};
+use ram_medium::{Arm, FailEnd, SyncEnd};
 use ram_mmc::{Answer, Target};
 use ram_outside::Image;
 use ram_report::Event;
@@ -169,6 +170,28 @@ impl<D: Drive> Inserted<D> {
                 data_in.clear();
                 Err(Stopped::NotADisc)
             }
+        }
+    }
+    /// Waits until all that was written to the image is where no failure of the system can lose it. Nothing was written to an image
+    /// that was not opened, so it is not touched.
+    ///
+    /// # Clauses
+    ///
+    /// - `step`, `count`: For each state before: what it makes of it. The image's count rose exactly where the image failed.
+    ///
+    /// # Answers
+    ///
+    /// - `Done`: the image says that it lasts, or it was not opened. Then: nothing changed. (`SyncStep`)
+    /// - `Failed`: the image counted a failure. Then: the power is off, and the image has the bytes that it had. (`FailsToLast`)
+    pub fn sync(&mut self) -> SyncEnd
+        ensures step { (s : State) → Stands D.Caching D.lies_in D.Image.Image self.old s
+            → IsSynced s (Stands D.Caching D.lies_in D.Image.Image self.new) result }
+        ensures count { SyncCount (faults_of D.Caching D.Image.Image self.old)
+            (faults_of D.Caching D.Image.Image self.new) result }
+    {
+        match self {
+            Inserted::Image(_, _) => SyncEnd::Done,
+            Inserted::Disc(target, _, _) => target.disc.sync(),
         }
     }
 }

@@ -4,7 +4,8 @@
 //! (what a run is), `specs/Register.antt` (what a user may rely on of a sector). Then `src/inserted.rt` and `src/drive.rt`.
 //!
 //! - `Drive` (`src/drive.rt`): What a script does to a disc beside its host's commands: open and hand back an image, `fail`,
-//!   `wear` and `arm_cut`. It tells the bytes that it lies in (`lies_in`), which always have the cells that it shows
+//!   `wear` and `arm_cut`; and `sync`, which no line of a script does: a client that is told that its bytes last is not told before
+//!   the image says so. It tells the bytes that it lies in (`lies_in`), which always have the cells that it shows
 //!   (`drive_laws`): those of the image that was opened, and those of the image that is handed back. The events that it underwent
 //!   change them by the medium's rule (`by_events`). The loop over the lines is proved over any `Drive`; `run` picks a write
 //!   cache over the volume over an image (`src/volume.rt`), in one line.

@@ -8,7 +8,7 @@ use crate::drive::Drive;
 use crate::rooms::DriveRooms;
 use ram_cache::Cached;
 use ram_image::{ImageMedium, Refused, open};
-use ram_medium::{Arm, FailEnd, Fate};
+use ram_medium::{Arm, FailEnd, Fate, SyncEnd};
 use ram_outside::Image;
 use ram_volume::Volume;
 
@@ -74,6 +74,10 @@ impl<I: Image> Drive for Cached<Volume<ImageMedium<I>>> {
 
     fn arm_cut(&mut self, n: u32, fate: Fate) {
         self.disc.arm_cut(n, fate);
+    }
+
+    fn sync(&mut self) -> SyncEnd {
+        self.disc.sync()
     }
 
     ghost drive_laws = { record {
