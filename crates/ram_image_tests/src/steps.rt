@@ -13,6 +13,8 @@ pub enum Step {
     Fail { block: u32 },
     Wear { block: u32, n: u32 },
     Cut { n: u32, fate: Fate },
+    /// All that was written is to last.
+    Sync,
     /// The image is opened anew, as a file is that failed; now it fails no more.
     Again,
 }
@@ -64,6 +66,7 @@ pub fn step_of(words: &[&str]) -> Option<Step> {
         ["on"] => Some(Step::On),
         ["off"] => Some(Step::Off),
         ["again"] => Some(Step::Again),
+        ["sync"] => Some(Step::Sync),
         ["fail", block] => Some(Step::Fail {
             block: number_of(block)?,
         }),

@@ -1,7 +1,7 @@
 //! One step of any medium, and what it answers.
 use crate::steps::Step;
 use ram_bytes::Block;
-use ram_medium::{Arm, FailEnd, Fate, MediumControl, ReadEnd, WriteEnd};
+use ram_medium::{Arm, FailEnd, Fate, MediumControl, ReadEnd, SyncEnd, WriteEnd};
 
 /// What a step answers.
 #[derive(Clone, Copy, Debug, PartialEq, Eq)]
@@ -122,6 +122,13 @@ fn arm_cut<M: MediumControl>(medium: &mut M, n: u32, fate: Fate) -> Answer {
     Answer::Done
 }
 
+fn sync<M: MediumControl>(medium: &mut M) -> Answer {
+    match medium.sync() {
+        SyncEnd::Done => Answer::Done,
+        SyncEnd::Failed => Answer::Failed,
+    }
+}
+
 /// Makes a step with a medium. `block` has the bytes that are read and written.
 pub fn take<M: MediumControl>(medium: &mut M, step: Step, block: &mut Block) -> Answer {
     match step {
@@ -140,6 +147,7 @@ pub fn take<M: MediumControl>(medium: &mut M, step: Step, block: &mut Block) -> 
         Step::Fail { block: number } => fail(medium, number),
         Step::Wear { block: number, n } => wear(medium, number, n),
         Step::Cut { n, fate } => arm_cut(medium, n, fate),
+        Step::Sync => sync(medium),
         Step::Again => Answer::Done,
     }
 }
