@@ -1,15 +1,19 @@
 -- What the requests of a client do: each is done by commands, and a command does what a line of a script with it does. For the talk
 -- of a client and a drive, and for the code that does a request. (This project's own, as all here.)
-use Rattle.std.specs.Prelude.{◌≡◌, ℕ, ◌⊎◌, ◌==◌, if◌then◌else◌, List, [], ◌∷◌, ◌++◌, map}
+use Rattle.std.specs.Prelude.{◌≡◌, ℕ, ◌⊎◌, ◌==◌, if◌then◌else◌, IsTrue, Err, List, [], ◌∷◌, ◌++◌, map}
 use Rattle.model_sense.specs.declared.answer.Answer.{Answer}
 use Rattle.model_sense.specs.declared.answer.Answer.TheVariants as answers
 use Rattle.model_nbd.specs.declared.NbdOperation.{NbdOperation}
 use Rattle.model_nbd.specs.declared.NbdOperation.TheVariants as operations
 use Rattle.model_nbd.specs.Messages.{reply_bytes}
 use Rattle.model_nbd.specs.Commands.{Command, error_of}
+use Rattle.ram_medium.specs.declared.control.SyncEnd.TheVariants as syncs
 use Rattle.ram_text.specs.declared.script.Line.TheVariants as lines
 use Rattle.ram_machine.specs.declared.reply.Reply.TheVariants as replies
+use Rattle.ram_machine.specs.declared.stopped.Stopped.TheVariants as stopped
 use Rattle.ram_machine.specs.Answered.{AnsweredStep}
+use Rattle.ram_machine.specs.Control.{SyncStep}
+use Rattle.ram_machine.specs.LineSteps.{Step}
 use Rattle.ram_machine.specs.States.{State}
 use Rattle.ram_machine.specs.Runs.{Run}
 
@@ -60,6 +64,28 @@ pub record StoppedAtOne (commands : List Command) (dids : List Did) : Type 0 whe
 -- The commands were done one after another: all of them, each good; or up to the first that was not.
 abbrev pub AreDone : List Command → List Did → Type 0
 AreDone commands dids = WereAllGood commands dids ⊎ StoppedAtOne commands dids
+
+-- All that was written is to last before the client is told: a flush, a write with FUA, and a client that leaves.
+abbrev pub AsksToLast : NbdOperation → Type 0
+AsksToLast (operations.Write lba n fua) = IsTrue fua
+AsksToLast (operations.WriteZeroes lba n fua) = IsTrue fua
+AsksToLast operations.Flush = Unit {0}
+AsksToLast operations.Disconnect = Unit {0}
+AsksToLast _ = ⊥
+
+-- The image failed in the command after those that were done, as which this state is left.
+pub record FailsInNext (commands : List Command) (dids : List Did) (mid state : State) : Type 0 where
+  pub command : Command
+  pub undone : List Command
+  pub commands_are : commands ≡ commands_in dids ++ (command ∷ undone)
+  pub data_in : List ℕ
+  pub step : Step mid (lines.Command command.cdb) command.payload (Err stopped.ImageFault) data_in state
+
+-- All commands were done, and the image failed as all was to last. It has the bytes that they left.
+pub record FailsBeforeReply (operation : NbdOperation) (commands : List Command) (dids : List Did) (mid state : State) : Type 0 where
+  pub asks : AsksToLast operation
+  pub all_done : commands ≡ commands_in dids
+  pub step : SyncStep mid syncs.Failed state
 
 -- the data that they gave, in their order
 abbrev pub data_from : List Did → List ℕ

@@ -5,10 +5,9 @@ use Rattle.std.specs.Io.KnownBytes.{prepend_known}
 use Rattle.model_nbd.specs.Messages.{greeting, Request, IsRequest, request_bytes}
 use Rattle.model_nbd.specs.Handshake.{Serving}
 use Rattle.model_nbd.specs.Operations.{request_asks}
-use Rattle.model_nbd.specs.Commands.{Command, commands_of}
+use Rattle.model_nbd.specs.Commands.{commands_of}
 use Rattle.ram_outside.specs.Conversation.{Asked}
 use Rattle.ram_text.specs.declared.script.Line.{Line}
-use Rattle.ram_text.specs.declared.script.Line.TheVariants as lines
 use Rattle.ram_machine.specs.declared.reply.Reply.{Reply}
 use Rattle.ram_machine.specs.declared.status.Status.{Status}
 use Rattle.ram_machine.specs.declared.status.Status.TheVariants as statuses
@@ -19,7 +18,7 @@ use Rattle.ram_machine.specs.LineSteps.{Step}
 use Rattle.ram_script.specs.Progress.{Beginning}
 use Rattle.ram_script.specs.Endings.{Aftermath}
 use Rattle.ram_script.specs.RunCounts.{Counts, SameCounts, OnlySourceRose, OnlySinkRose, OnlyImageRose}
-use Rattle.ram_session.specs.Doing.{Did, Doing, WereGood, commands_in}
+use Rattle.ram_session.specs.Doing.{Did, Doing, WereGood, FailsInNext, FailsBeforeReply}
 use Rattle.ram_session.specs.Talk.{Phase, Transmission, Left, Violation, Turned, Talk, BeginsNoMessage, sent_in, told_in}
 use Rattle.ram_session.specs.Opening.{IsSessionOpened, IsOpenedInPart, RefusesFault, export_after}
 
@@ -84,8 +83,8 @@ module _ {first : Beginning} {faults : List Line} (far : SessionSoFar first faul
     pub left_is : left ≡ Some far.rest
     pub leaves_now : leaves far.now
 
-  -- The next message is a request. Its first commands were good, and in the next one the image failed, as which it is left.
-  -- Nothing is told of the request.
+  -- The next message is a request. Its first commands were good, and in the next one the image failed; or all of them were, and the
+  -- image failed as all was to last. Nothing is told of the request.
   pub record IsCutByImage : Type 0 where
     pub size : ℕ
     pub serves : export_after far.opened.steps ≡ Serving size
@@ -98,12 +97,10 @@ module _ {first : Beginning} {faults : List Line} (far : SessionSoFar first faul
     pub good : WereGood dids
     pub mid : State
     pub done : Doing far.now dids mid
-    pub command : Command
-    pub undone : List Command
-    pub commands : commands_of (request_asks size request.header) request.payload ≡ commands_in dids ++ (command ∷ undone)
-    pub data_in : List ℕ
     pub state : State
-    pub step : Step mid (lines.Command command.cdb) command.payload (Err stopped.ImageFault) data_in state
+    pub fails : FailsInNext (commands_of (request_asks size request.header) request.payload) dids mid state
+        ⊎ FailsBeforeReply (request_asks size request.header)
+        (commands_of (request_asks size request.header) request.payload) dids mid state
     pub written_is : written ≡ Some (first.report ++ told_in far.turns)
     pub left_is : left ≡ Some rest
     pub leaves_state : leaves state
