@@ -1,18 +1,20 @@
 -- The reply to a request, by how its commands ended.
-use Rattle.std.specs.Prelude.{◌≡◌, ℕ, ◌==◌, if◌then◌else◌, Bool, true, false, Err, List, [], ◌∷◌, ◌++◌}
-use Rattle.std.proofs.Common.{refl, sym, ap, ◌∙◌, inl}
+use Rattle.std.specs.Prelude.{◌≡◌, ℕ, ◌==◌, if◌then◌else◌, Bool, true, false, IsTrue, Ok, Err, List, [], ◌∷◌, ◌++◌}
+use Rattle.std.proofs.Common.{refl, sym, ap, ◌∙◌, subst, inl, inr}
 use Rattle.model_sense.specs.declared.answer.Answer.{Answer}
 use Rattle.model_sense.specs.declared.answer.Answer.TheVariants as answers
 use Rattle.model_nbd.specs.declared.NbdOperation.{NbdOperation}
 use Rattle.model_nbd.specs.declared.NbdOperation.TheVariants as operations
 use Rattle.model_nbd.specs.Messages.{reply_bytes}
-use Rattle.model_nbd.specs.Commands.{commands_of, error_of, lacks_spare}
+use Rattle.model_nbd.specs.Commands.{Command, commands_of, error_of, lacks_spare}
+use Rattle.ram_medium.specs.declared.control.SyncEnd.TheVariants as syncs
 use Rattle.ram_machine.specs.declared.stopped.Stopped.{Stopped}
 use Rattle.ram_machine.specs.declared.stopped.Stopped.TheVariants as stopped
-use Rattle.ram_machine.specs.States.{State, Served, Disc}
-use Rattle.ram_session.specs.Doing.{Did, error_after, data_from, reply_to}
+use Rattle.ram_machine.specs.States.{State, Served, Unopened, Disc}
+use Rattle.ram_machine.specs.Control.{SyncStep, IsSynced}
+use Rattle.ram_session.specs.Doing.{Did, WereAllGood, AreDone, AsksToLast, error_after, data_from, reply_to}
 use Rattle.ram_transmission.specs.Chains.{EndsWith, ChainDone, ChainRule, AnyData, GoesBehind}
-use Rattle.ram_transmission.specs.Requests.{RequestDone, RequestRule}
+use Rattle.ram_transmission.specs.Requests.{RequestDone, RequestRule, LastingRule, DiscFailsToLast}
 
 error_ended : (dids : List Did) (answer : Answer) → EndsWith dids answer → error_after dids ≡ error_of answer
 error_ended [] answer ends = absurd ends
@@ -95,10 +97,62 @@ module _ (after : State → Type 0) (s : Served) (cookie : ℕ) where
   -- the image failed
   pub request_failed : (gives : Answer → List ℕ → Type 0) (operation : NbdOperation) (payload reply : List ℕ) (why : Stopped)
       → ChainRule gives after s (commands_of operation payload) (Err why) → RequestRule after s operation payload cookie reply (Err why)
-  request_failed gives operation payload reply stopped.ImageFault fails = fails
+  request_failed gives operation payload reply stopped.ImageFault fails = inl fails
   request_failed gives operation payload reply stopped.NotInLanguage none = none
   request_failed gives operation payload reply stopped.LineTooLong none = none
   request_failed gives operation payload reply stopped.ScriptTooLong none = none
   request_failed gives operation payload reply stopped.NotADisc none = none
   request_failed gives operation payload reply stopped.SourceFault none = none
   request_failed gives operation payload reply stopped.SinkFault none = none
+
+-- ---- all is to last
+
+-- the disc, where the image failed in it
+pub synced_failed : (s : Served) (after : State → Type 0) → IsSynced (Disc s) after syncs.Failed → DiscFailsToLast after s
+synced_failed s after is = by_state is.state is.step is.stands
+  where
+    by_state : (t : State) → SyncStep (Disc s) syncs.Failed t → after t → DiscFailsToLast after s
+    by_state (Unopened image) step stands = absurd step
+    by_state (Disc now) step stands = record { now = now; step = step; stands = stands }
+
+-- commands that ended with a good one were all good
+all_good : (commands : List Command) (dids : List Did) → AreDone commands dids → EndsWith dids answers.Good → WereAllGood commands dids
+all_good commands dids (inl good) ends = good
+all_good commands dids (inr stopped) ends =
+    absurd (stopped.not_good (subst (λ (ds : List Did). EndsWith ds answers.Good) stopped.dids_are ends))
+
+module _ (before after : State → Type 0) (s : Served) where
+  -- the disc is then as the commands left it
+  pub then_lasting : (commands : List Command) (answer : Answer) (asked : Bool) → ChainDone AnyData before s commands answer
+      → ((t : Served) → before (Disc t) → LastingRule after t answer asked (Ok tt)) → ChainDone AnyData after s commands answer
+  then_lasting commands answer asked chain lasts = record {
+    dids = chain.dids;
+    done = chain.done;
+    ends = chain.ends;
+    given = chain.given;
+    now = chain.now;
+    does = chain.does;
+    stands = lasts chain.now chain.stands;
+  }
+
+  -- or the image failed
+  pub lasting_failed : (cookie : ℕ) (operation : NbdOperation) (payload reply : List ℕ) (answer : Answer) (asked : Bool) (why : Stopped)
+      → (IsTrue asked → AsksToLast operation) → ChainDone AnyData before s (commands_of operation payload) answer
+      → ((t : Served) → before (Disc t) → LastingRule after t answer asked (Err why))
+      → RequestRule after s operation payload cookie reply (Err why)
+  lasting_failed cookie operation payload reply answer asked stopped.ImageFault asks chain fails =
+      let failed = fails chain.now chain.stands in
+      inr (record {
+        asks = asks failed.0;
+        dids = chain.dids;
+        good = all_good (commands_of operation payload) chain.dids chain.done (subst (EndsWith chain.dids) failed.1 chain.ends);
+        mid = chain.now;
+        does = chain.does;
+        fails = failed.2;
+      })
+  lasting_failed cookie operation payload reply answer asked stopped.NotInLanguage asks chain fails = fails chain.now chain.stands
+  lasting_failed cookie operation payload reply answer asked stopped.LineTooLong asks chain fails = fails chain.now chain.stands
+  lasting_failed cookie operation payload reply answer asked stopped.ScriptTooLong asks chain fails = fails chain.now chain.stands
+  lasting_failed cookie operation payload reply answer asked stopped.NotADisc asks chain fails = fails chain.now chain.stands
+  lasting_failed cookie operation payload reply answer asked stopped.SourceFault asks chain fails = fails chain.now chain.stands
+  lasting_failed cookie operation payload reply answer asked stopped.SinkFault asks chain fails = fails chain.now chain.stands

@@ -8,18 +8,20 @@ ghost use Rattle.ram_machine.specs.States.{Served, Disc};
 ghost use Rattle.ram_machine.specs.Inserted.{Stands, faults_of};
 ghost use Rattle.ram_transmission.specs.declared.requests.TheConstants.{REQUEST_ROOM};
 ghost use Rattle.ram_transmission.specs.Chains.{ImageCount};
-ghost use Rattle.ram_transmission.specs.Requests.{Fits, RequestRule};
+ghost use Rattle.ram_transmission.specs.Requests.{Fits, RequestRule, LastingRule};
 
 use crate::parts::{read_parts, synchronize, write_parts, zero_parts};
 use model_nbd::{MOST_BYTES, NbdOperation};
 use ram_machine::{Drive, Inserted, Stopped};
+use ram_medium::SyncEnd;
 use ram_nbd::replies::{REPLY_BYTES, error_of, reply_head};
 use ram_sense::Answer;
 
 /// How many bytes the room for the data of a request, or for a reply, has.
 pub const REQUEST_ROOM: usize = REPLY_BYTES + MOST_BYTES as usize;
 
-/// Does what a request asks, with its data in `message`. Its reply is then in their place.
+/// Does what a request asks, with its data in `message`. Its reply is then in their place. Before a flush, a write with FUA or a client
+/// that leaves has its reply, all that was written is made to last.
 ///
 /// # Clauses
 ///
@@ -30,9 +32,10 @@ pub const REQUEST_ROOM: usize = REPLY_BYTES + MOST_BYTES as usize;
 /// # Answers
 ///
 /// - `Ok`: the commands were done, and the reply tells how. (`RequestDone`)
-/// - `Err`: a command was not done. (`ChainFails`)
-/// - `ImageFault`: the image failed in a command; those before it were good. (`ChainFails`)
-/// - `NotADisc`, `NotInLanguage`, `LineTooLong`, `ScriptTooLong`, `SourceFault`, `SinkFault`: never. (`ChainFails`)
+/// - `Err`: the image failed, and there is no reply. (`RequestFails`)
+/// - `ImageFault`: the image failed in a command, and those before it were good; or all were, and it failed as all was to last.
+///   (`ChainFails`, `LastingFails`)
+/// - `NotADisc`, `NotInLanguage`, `LineTooLong`, `ScriptTooLong`, `SourceFault`, `SinkFault`: never. (`RequestRule`)
 pub fn answer_request<D: Drive>(
     inserted: &mut Inserted<D>,
     operation: NbdOperation,
@@ -120,10 +123,13 @@ fn answer_write<D: Drive>(
     ensures data_room { vec_capacity data_in.old ≤ vec_capacity data_in.new }
 {
     match write_parts(inserted, lba, n, fua, message.as_slice(), data_in) {
-        Ok(answer) => {
-            put_reply(message, error_of(answer), cookie);
-            Ok(())
-        }
+        Ok(answer) => match make_lasting(inserted, answer, fua) {
+            Ok(()) => {
+                put_reply(message, error_of(answer), cookie);
+                Ok(())
+            }
+            Err(stopped) => Err(stopped),
+        },
         Err(stopped) => Err(stopped),
     }
 }
@@ -151,10 +157,13 @@ fn answer_zeroes<D: Drive>(
 {
     put_zeros(message, n);
     match zero_parts(inserted, lba, n, fua, message.as_slice(), data_in) {
-        Ok(answer) => {
-            put_reply(message, error_of(answer), cookie);
-            Ok(())
-        }
+        Ok(answer) => match make_lasting(inserted, answer, fua) {
+            Ok(()) => {
+                put_reply(message, error_of(answer), cookie);
+                Ok(())
+            }
+            Err(stopped) => Err(stopped),
+        },
         Err(stopped) => Err(stopped),
     }
 }
@@ -177,10 +186,13 @@ fn answer_flush<D: Drive>(
     ensures data_room { vec_capacity data_in.old ≤ vec_capacity data_in.new }
 {
     match synchronize(inserted, data_in) {
-        Ok(answer) => {
-            put_reply(message, error_of(answer), cookie);
-            Ok(())
-        }
+        Ok(answer) => match make_lasting(inserted, answer, true) {
+            Ok(()) => {
+                put_reply(message, error_of(answer), cookie);
+                Ok(())
+            }
+            Err(stopped) => Err(stopped),
+        },
         Err(stopped) => Err(stopped),
     }
 }
@@ -201,11 +213,34 @@ fn disconnect<D: Drive>(
     ensures data_room { vec_capacity data_in.old ≤ vec_capacity data_in.new }
 {
     match synchronize(inserted, data_in) {
-        Ok(_) => {
-            message.clear();
-            Ok(())
-        }
+        Ok(answer) => match make_lasting(inserted, answer, true) {
+            Ok(()) => {
+                message.clear();
+                Ok(())
+            }
+            Err(stopped) => Err(stopped),
+        },
         Err(stopped) => Err(stopped),
+    }
+}
+
+/// Waits until all that was written lasts, where the commands were good and it was asked.
+fn make_lasting<D: Drive>(
+    inserted: &mut Inserted<D>,
+    answer: Answer,
+    asked: bool,
+) -> Result<(), Stopped>
+    ensures rule { (s : Served) → Stands D.Caching D.lies_in D.Image.Image inserted.old (Disc s)
+        → LastingRule (Stands D.Caching D.lies_in D.Image.Image inserted.new) s answer asked result }
+    ensures count { ImageCount (faults_of D.Caching D.Image.Image inserted.old)
+        (faults_of D.Caching D.Image.Image inserted.new) result }
+{
+    match (answer, asked) {
+        (Answer::Good, true) => match inserted.sync() {
+            SyncEnd::Done => Ok(()),
+            SyncEnd::Failed => Err(Stopped::ImageFault),
+        },
+        (Answer::Good | Answer::Check(_) | Answer::Cut | Answer::Off | Answer::Fault, _) => Ok(()),
     }
 }
 
