@@ -1,6 +1,6 @@
 -- What a request that came makes of a session.
 use Rattle.std.specs.Prelude.{◌≡◌, ℕ, ◌+◌, Option, Result, Ok, Err, List, []}
-use Rattle.std.proofs.Common.{refl, sym, ap, ◌∙◌, subst}
+use Rattle.std.proofs.Common.{inl, inr, refl, sym, ap, ◌∙◌, subst}
 use Rattle.std.specs.Io.KnownBytes.{append_known}
 use Rattle.model_nbd.specs.declared.NbdOperation.{NbdOperation}
 use Rattle.model_nbd.specs.Messages.{request_bytes}
@@ -12,11 +12,10 @@ use Rattle.ram_machine.specs.declared.status.Status.{Status}
 use Rattle.ram_machine.specs.declared.status.Status.TheVariants as statuses
 use Rattle.ram_machine.specs.States.{State, Served, Disc}
 use Rattle.ram_script.specs.Progress.{Beginning}
-use Rattle.ram_session.specs.Doing.{Doing, AreDone, reply_to}
+use Rattle.ram_session.specs.Doing.{Doing, AreDone, AsksToLast, reply_to}
 use Rattle.ram_session.specs.Talk.{Phase, Transmission, Left, Asks, IsRequestAnswered, phase_asked}
 use Rattle.ram_session.specs.Session.{TalkEnds}
-use Rattle.ram_transmission.specs.Chains.{ChainFails}
-use Rattle.ram_transmission.specs.Requests.{RequestDone}
+use Rattle.ram_transmission.specs.Requests.{RequestDone, RequestFails}
 use Rattle.ram_serve.specs.declared.incoming.Incoming.{Incoming}
 use Rattle.ram_serve.specs.Taking.{RequestCame}
 use Rattle.ram_serve.specs.Turns.{BetweenMessages, BetweenRequests, RequestsLeadTo, ReplyRule, AnswerRule}
@@ -71,9 +70,9 @@ module _ (first : Beginning) (faults : List Line) (size n : ℕ) (stands stands'
     told_then (Err statuses.NotADisc) rule = absurd rule
 
   -- the image failed in one of its commands
-  image_failed : ChainFails stands' b.disc (commands_of incoming.operation room) → written' ≡ written
+  image_failed : RequestFails stands' b.disc incoming.operation room → written' ≡ written
       → TalkEnds first faults stands' left' written' statuses.ImageFault
-  image_failed fails same =
+  image_failed (inl fails) same =
       let k = rest_behind first faults (Serving size) Transmission n stands left left' written b.between (request_bytes came.request) came.went in (
         b.between.far,
         record {
@@ -88,12 +87,41 @@ module _ (first : Beginning) (faults : List Line) (size n : ℕ) (stands stands'
           good = fails.good;
           mid = Disc fails.mid;
           done = subst (λ (s : State). Doing s fails.dids (Disc fails.mid)) (sym b.disc_is) fails.does;
-          command = fails.command;
-          undone = fails.undone;
-          commands = sym same_asked ∙ fails.commands_are;
-          data_in = fails.fails.data_in;
           state = Disc fails.fails.now;
-          step = fails.fails.step;
+          fails = inl (record {
+            command = fails.command;
+            undone = fails.undone;
+            commands_are = sym same_asked ∙ fails.commands_are;
+            data_in = fails.fails.data_in;
+            step = fails.fails.step;
+          });
+          written_is = same ∙ b.between.at.written_is;
+          left_is = k.left_is;
+          leaves_state = fails.fails.stands;
+        },
+      )
+  -- or as all was to last
+  image_failed (inr fails) same =
+      let k = rest_behind first faults (Serving size) Transmission n stands left left' written b.between (request_bytes came.request) came.went in (
+        b.between.far,
+        record {
+          size = size;
+          serves = b.between.serves;
+          asks = b.between.phase_is;
+          request = came.request;
+          whole = came.whole;
+          rest = k.behind;
+          comes = k.rest_is;
+          dids = fails.dids;
+          good = fails.good.good;
+          mid = Disc fails.mid;
+          done = subst (λ (s : State). Doing s fails.dids (Disc fails.mid)) (sym b.disc_is) fails.does;
+          state = Disc fails.fails.now;
+          fails = inr (record {
+            asks = subst AsksToLast came.operation_is fails.asks;
+            all_done = sym same_asked ∙ fails.good.all_done;
+            step = fails.fails.step;
+          });
           written_is = same ∙ b.between.at.written_is;
           left_is = k.left_is;
           leaves_state = fails.fails.stands;

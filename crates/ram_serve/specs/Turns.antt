@@ -5,7 +5,6 @@ use Rattle.std.specs.Io.KnownBytes.{append_known}
 use Rattle.model_nbd.specs.declared.NbdOperation.{NbdOperation}
 use Rattle.model_nbd.specs.declared.NbdOperation.TheVariants as operations
 use Rattle.model_nbd.specs.Handshake.{Export, Serving}
-use Rattle.model_nbd.specs.Commands.{commands_of}
 use Rattle.ram_outside.specs.Sink.{FailsOnce}
 use Rattle.ram_outside.specs.declared.sink.Sink.{Ghosts as Sinks}
 use Rattle.ram_outside.specs.declared.conversation.Conversation.{Ghosts as Conversations}
@@ -18,8 +17,7 @@ use Rattle.ram_script.specs.RunCounts.{Counts, counts_of, SameCounts}
 use Rattle.ram_session.specs.Talk.{Phase, Transmission, phase_asked}
 use Rattle.ram_session.specs.Opening.{export_after}
 use Rattle.ram_session.specs.Session.{SessionSoFar, IsLeftAt, TalkEnds, SessionCounts}
-use Rattle.ram_transmission.specs.Chains.{ChainFails}
-use Rattle.ram_transmission.specs.Requests.{RequestDone}
+use Rattle.ram_transmission.specs.Requests.{RequestDone, RequestFails}
 
 -- Between two messages, of which n came at least: all that was due was told, the client of a session in which this is served stands in this
 -- phase, and the messages lead to one of these states.
@@ -68,7 +66,7 @@ module _ (after : State → Type 0) (written written' : Option (List ℕ)) where
   -- What answering a request may do, by the answer of the call: where the image failed, nothing is told.
   abbrev pub AnswerRule : Served → NbdOperation → (payload : List ℕ) → (cookie : ℕ) → Result (Unit {0}) Status → Type 0
   AnswerRule s operation payload cookie (Err statuses.ImageFault) =
-      ChainFails after s (commands_of operation payload) × (written' ≡ written)
+      RequestFails after s operation payload × (written' ≡ written)
   AnswerRule s operation payload cookie result = AnsweredSo s operation payload cookie result
 
 module _ {T K : Type 0} (talks : Conversations T K) (sinks : Sinks K) where

@@ -83,7 +83,7 @@ pub fn serve_requests<D: Drive, T: Conversation>(
 /// - `Err`: the session ends. (`RequestsLeadTo`)
 /// - `Done`: the client left, or nothing comes any more. (`RequestsLeadTo`)
 /// - `Script`: what came begins no request, or ends within one. (`RequestsLeadTo`)
-/// - `ImageFault`: the image failed in a command of the request, which has no reply. (`RequestsLeadTo`)
+/// - `ImageFault`: the image failed in a command of the request, or as all was to last; it has no reply. (`RequestsLeadTo`)
 /// - `SourceFault`: the source counted a failure before a request was whole. (`RequestsLeadTo`)
 /// - `SinkFault`: the sink counted a failure within the reply. (`RequestsLeadTo`)
 /// - `Differs`, `Usage`, `NoMemory`, `NotADisc`: never. (`RequestsLeadTo`)
