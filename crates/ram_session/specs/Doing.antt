@@ -82,7 +82,8 @@ pub record FailsInNext (commands : List Command) (dids : List Did) (mid state : 
   pub step : Step mid (lines.Command command.cdb) command.payload (Err stopped.ImageFault) data_in state
 
 -- All commands were done, and the image failed as all was to last. It has the bytes that they left.
-pub record FailsBeforeReply (operation : NbdOperation) (commands : List Command) (dids : List Did) (mid state : State) : Type 0 where
+pub record FailsBeforeReply (operation : NbdOperation) (commands : List Command) (dids : List Did)
+    (mid state : State) : Type 0 where
   pub asks : AsksToLast operation
   pub all_done : commands ≡ commands_in dids
   pub step : SyncStep mid syncs.Failed state

@@ -52,7 +52,8 @@ module _ (after : State → Type 0) where
 
   -- the image failed in a command of the request, or as all was to last
   abbrev pub RequestFails : Served → NbdOperation → (payload : List ℕ) → Type 0
-  RequestFails s operation payload = ChainFails after s (commands_of operation payload) ⊎ LastingFails s operation payload
+  RequestFails s operation payload =
+      ChainFails after s (commands_of operation payload) ⊎ LastingFails s operation payload
 
   -- What a request makes of a disc, by what became of it.
   abbrev pub RequestRule : Served → NbdOperation → (payload : List ℕ) → (cookie : ℕ) → (reply : List ℕ) → Result (Unit {0}) Stopped → Type 0

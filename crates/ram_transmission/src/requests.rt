@@ -20,8 +20,8 @@ use ram_sense::Answer;
 /// How many bytes the room for the data of a request, or for a reply, has.
 pub const REQUEST_ROOM: usize = REPLY_BYTES + MOST_BYTES as usize;
 
-/// Does what a request asks, with its data in `message`. Its reply is then in their place. Before a flush, a write with FUA or a client
-/// that leaves has its reply, all that was written is made to last.
+/// Does what a request asks, with its data in `message`. Its reply is then in their place. For a flush, a write with FUA and a client
+/// that leaves, all that was written is made to last first.
 ///
 /// # Clauses
 ///
