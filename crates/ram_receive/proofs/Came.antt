@@ -1,13 +1,13 @@
 -- What came so far, after one more piece.
-use Rattle.std.proofs.Common.{◌≡◌, ℕ, ◌+◌, ◌-◌, ◌≤◌, Option, None, Some, is_some, List, ◌++◌, length, take, drop, sym, ap, ◌∙◌, arith, append_assoc, take-add, length-append, length-take-le, length-drop}
+use Rattle.std.proofs.Common.{◌≡◌, ℕ, ◌+◌, ◌-◌, ◌<◌, ◌≤◌, Option, None, Some, is_some, List, ◌++◌, length, take, drop, sym, ap, ◌∙◌, arith, append_assoc, take-add, length-append, length-take-le, length-drop}
 use Rattle.std.proofs.lemmas.Slice.{take-put_mid_below}
 use Rattle.std.proofs.lemmas.List.{take-append-le}
 use Rattle.std.proofs.Math.Seq.{drop-append_seam}
 use Rattle.std.specs.Io.KnownBytes.{Consumes}
 use Rattle.ram_outside.specs.Source.{GivesNext}
-use Rattle.ram_outside.specs.Conversation.{Asked, AsksNow, AsksOnly}
+use Rattle.ram_outside.specs.Conversation.{Asked, asked_with, AsksNow, AsksOnly}
 use Rattle.ram_outside.proofs.Additions.{added_then, added_once}
-use Rattle.ram_receive.specs.Receiving.{Went}
+use Rattle.ram_receive.specs.Receiving.{Went, IsShortAsk}
 use borrow.Rule.Slice.PartMut.{put_mid, post_of}
 
 -- bytes went, and then others
@@ -53,6 +53,12 @@ longer into piece at inside long =
       length-drop at into,
     )
 
--- more was asked for once more, where it stood so
-pub more_asked : (stood : Asked → Type 0) (now : Asked) (a b c : Option (List Asked)) → AsksOnly stood a b → AsksNow now b c → stood now → AsksOnly stood a c
-more_asked stood now a b c before asks here = added_then stood a b c before (added_once stood now b c asks here)
+-- more was asked for once more, before all had come
+pub more_asked : (first before written written' : Option (List ℕ)) (into : List ℕ) (at count : ℕ) (a b c : Option (List Asked))
+    → at < length into → length into ≡ count → Went first before (take at into) → written' ≡ written
+    → AsksOnly (IsShortAsk first written count) a b → AsksNow (asked_with before written') b c → AsksOnly (IsShortAsk first written count) a c
+more_asked first before written written' into at count a b c inside long went same earlier asks =
+    let now : IsShortAsk first written count (asked_with before written') =
+    record { came = take at into; few = omega (arith, inside, long, length-take-le at into (omega (arith, inside))); went = went; written_is = same } in
+    added_then (IsShortAsk first written count) a b c earlier
+    (added_once (IsShortAsk first written count) (asked_with before written') b c asks now)

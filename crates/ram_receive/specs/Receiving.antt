@@ -20,6 +20,9 @@ ReceiveRule before after faults faults' into (Ended n) =
 ReceiveRule before after faults faults' into (Failed n) =
     (n < length into) × Went before after (take n into) × Rose faults faults'
 
--- this was written when more was asked for
-abbrev pub HasWritten : Option (List ℕ) → Asked → Type 0
-HasWritten written asked = asked.written ≡ written
+-- More was asked for when fewer bytes than this had come of what was left, and this was written.
+pub record IsShortAsk (left written : Option (List ℕ)) (count : ℕ) (ask : Asked) : Type 0 where
+  pub came : List ℕ
+  pub few : length came < count
+  pub went : Went left ask.left came
+  pub written_is : ask.written ≡ written

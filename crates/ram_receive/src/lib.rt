@@ -6,7 +6,7 @@
 
 ghost use Rattle.std.specs.Prelude.{◌≡◌, length};
 ghost use Rattle.ram_outside.specs.Conversation.{AsksOnly};
-ghost use Rattle.ram_receive.specs.Receiving.{ReceiveRule, HasWritten};
+ghost use Rattle.ram_receive.specs.Receiving.{ReceiveRule, IsShortAsk};
 
 use ram_outside::{Conversation, Take};
 
@@ -28,7 +28,7 @@ pub enum Received {
 /// - `rule` (`ReceiveRule`): the bytes that came, in the slice's front, and the count of failures.
 /// - `length`: the slice is as long as before.
 /// - `same`: the sink is as it was.
-/// - `asks` (`HasWritten`): whenever more was asked for, what is written by now was written.
+/// - `asks` (`IsShortAsk`): whenever more was asked for, not all of them had come, and what is written by now was written.
 ///
 /// # Answers
 ///
@@ -40,7 +40,7 @@ pub fn receive<T: Conversation>(talk: &mut T, into: &mut [u8]) -> Received
         (T.faults talk.old) (T.faults talk.new) into.new result }
     ensures length { length into.new ≡ length into.old }
     ensures same { T.report talk.new ≡ T.report talk.old }
-    ensures asks { AsksOnly (HasWritten (T.Sink.Sink.written (T.report talk.old)))
+    ensures asks { AsksOnly (IsShortAsk (T.left talk.old) (T.Sink.Sink.written (T.report talk.old)) (length into.old))
         (T.asked talk.old) (T.asked talk.new) }
 {
     let mut at = 0;

@@ -1,5 +1,6 @@
 pub mod Came
 pub mod Cuts
+pub mod Within
 pub mod Wanted
 pub mod Talked
 pub mod Requested

@@ -12,14 +12,16 @@ use Rattle.model_nbd.specs.Commands.{commands_of}
 use Rattle.model_nbd.proofs.Fields.{list_first}
 use Rattle.model_nbd.proofs.Readings.{header_first}
 use Rattle.model_nbd.proofs.Inverted.{read_lies_on, write_lies_on, zero_lies_on}
-use Rattle.ram_receive.specs.Receiving.{Went}
+use Rattle.ram_outside.specs.Conversation.{Asked, AsksOnly}
+use Rattle.ram_receive.specs.Receiving.{Went, IsShortAsk}
 use Rattle.ram_machine.specs.declared.status.Status.{Status}
 use Rattle.ram_session.specs.Talk.{Transmission, Flags, Wants, Asks, BeginsNoMessage}
 use Rattle.ram_transmission.specs.Requests.{Fits}
 use Rattle.ram_serve.specs.Messages.{FirstRule}
-use Rattle.ram_serve.specs.Taking.{HoldsData, TakesData, IsNoMessage, NoneCame, HeaderCame, DataRule, RequestCame}
+use Rattle.ram_serve.specs.Taking.{IsAskWithin, HoldsData, TakesData, IsNoMessage, NoneCame, HeaderCame, DataRule, RequestCame}
 use Rattle.ram_serve.proofs.Came.{went_on}
 use Rattle.ram_serve.proofs.Cuts.{first_cut, first_unread, others_cut}
+use Rattle.ram_serve.proofs.Within.{within_first, within_others}
 
 header_long : (header : Header) → length (header_bytes header) ≡ 28
 header_long header = refl
@@ -79,6 +81,19 @@ module _ (left left' : Option (List ℕ)) (faults faults' : ℕ) where
   data_cut mid middle header operation room status came rule =
       others_cut Transmission left left' faults faults' mid middle (header_bytes header) rule.0 (data_after header) status
       (omega (arith, header_long header)) (λ more few. none_partial header more came.fields few) came.went came.count rule.1
+
+-- more was asked for before the header was whole
+pub header_asks : (left written : Option (List ℕ)) (a b : Option (List Asked)) → AsksOnly (IsShortAsk left written 28) a b
+    → AsksOnly (IsAskWithin left written Transmission) a b
+header_asks left written a b asks = within_first Transmission tt left written 28 a b none_short asks
+
+-- and before its data were
+pub data_asks : (left mid written shown : Option (List ℕ)) (faults middle : ℕ) (header : Header) (a b c : Option (List Asked))
+    → HeaderCame left mid faults middle header → shown ≡ written → AsksOnly (IsAskWithin left written Transmission) a b
+    → AsksOnly (IsShortAsk mid shown (data_after header)) b c → AsksOnly (IsAskWithin left written Transmission) a c
+data_asks left mid written shown faults middle header a b c came same before asks =
+    within_others Transmission tt left mid written shown (header_bytes header) (data_after header) a b c
+    (λ more few. none_partial header more came.fields few) came.went same before asks
 
 -- a read or a write moves no more than the room holds
 abbrev IsShort : NbdOperation → Header → Type 0

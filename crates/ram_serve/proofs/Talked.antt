@@ -6,16 +6,16 @@ use Rattle.model_nbd.specs.Handshake.{Export}
 use Rattle.ram_text.specs.declared.script.Line.{Line}
 use Rattle.ram_outside.specs.Conversation.{Asked, AsksOnly}
 use Rattle.ram_outside.proofs.Additions.{added_then, added_mapped}
-use Rattle.ram_receive.specs.Receiving.{Went, HasWritten}
+use Rattle.ram_receive.specs.Receiving.{Went}
 use Rattle.ram_machine.specs.declared.status.Status.{Status}
 use Rattle.ram_machine.specs.declared.status.Status.TheVariants as statuses
 use Rattle.ram_machine.specs.States.{State}
 use Rattle.ram_script.specs.Progress.{Beginning}
 use Rattle.ram_session.specs.Doing.{Did, Doing}
-use Rattle.ram_session.specs.Talk.{Phase, Left, Violation, Message, message_bytes, FollowsBy, BeginsNoMessage, sent_in, told_in}
+use Rattle.ram_session.specs.Talk.{Phase, Left, Violation, Message, message_bytes, FollowsBy, AwaitsMessage, BeginsNoMessage, sent_in, told_in}
 use Rattle.ram_session.specs.Opening.{export_after}
 use Rattle.ram_session.specs.Session.{SessionSoFar, IsToldBy, IsLeftAt, BreaksProtocol, TalkEnds}
-use Rattle.ram_serve.specs.Taking.{NoneCame}
+use Rattle.ram_serve.specs.Taking.{IsAskWithin, NoneCame}
 use Rattle.ram_serve.specs.Turns.{BetweenMessages}
 use Rattle.ram_serve.proofs.Cuts.{at_end}
 
@@ -163,11 +163,22 @@ module _ (first : Beginning) (faults : List Line) (export : Export) (n : ℕ) (s
 
     -- whenever more was asked for in a message, all was told
     pub asks_told : BetweenMessages first faults export phase n stands left written → (a b c : Option (List Asked))
-        → AsksOnly (IsToldBy first faults) a b → AsksOnly (HasWritten written) b c → AsksOnly (IsToldBy first faults) a c
+        → AsksOnly (IsToldBy first faults) a b → AsksOnly (IsAskWithin left written phase) b c → AsksOnly (IsToldBy first faults) a c
     asks_told between a b c before asks =
         added_then (IsToldBy first faults) a b c before
-        (added_mapped (HasWritten written) (IsToldBy first faults)
-        (λ ask has. record { far = between.far; written_is = has ∙ between.at.written_is }) b c asks)
+        (added_mapped (IsAskWithin left written phase) (IsToldBy first faults) (λ ask within. told_by ask within) b c asks)
+      where
+        told_by : (ask : Asked) → IsAskWithin left written phase ask → IsToldBy first faults ask
+        told_by ask within =
+            let k = rest_behind first faults export phase n stands left ask.left written between within.came within.went in
+            record {
+              far = between.far;
+              written_is = within.written_is ∙ between.at.written_is;
+              awaits = subst AwaitsMessage (sym between.phase_is) within.awaits;
+              came = within.came;
+              no_message = subst (λ (p : Phase). BeginsNoMessage p within.came) (sym between.phase_is) within.none;
+              rest_is = ap (λ (o : Option (List ℕ)). prepend_known within.came o) k.left_is ∙ ap Some (sym k.rest_is);
+            }
 
 -- A session that leaves states of one kind leaves those of another, where each is.
 pub ends_where : (first : Beginning) (faults : List Line) (stands stands' : State → Type 0) (left written : Option (List ℕ))

@@ -7,13 +7,15 @@ use Rattle.model_nbd.specs.Handshake.{long_answer, short_answer}
 use Rattle.model_nbd.proofs.Fields.{list_first}
 use Rattle.model_nbd.proofs.Readings.{option_head_first}
 use Rattle.ram_nbd.specs.declared.handshake.OptionHead.{OptionHead}
-use Rattle.ram_receive.specs.Receiving.{Went}
+use Rattle.ram_outside.specs.Conversation.{Asked, AsksOnly}
+use Rattle.ram_receive.specs.Receiving.{Went, IsShortAsk}
 use Rattle.ram_machine.specs.declared.status.Status.{Status}
 use Rattle.ram_session.specs.Talk.{Greeted, Options, Flags, Wants, Asks, BeginsNoMessage}
 use Rattle.ram_serve.specs.Messages.{FirstRule}
-use Rattle.ram_serve.specs.Taking.{IsNoMessage, NoneCame, OptionHeadCame, OptionDataRule, OptionCame}
+use Rattle.ram_serve.specs.Taking.{IsAskWithin, IsNoMessage, NoneCame, OptionHeadCame, OptionDataRule, OptionCame}
 use Rattle.ram_serve.proofs.Came.{went_on}
 use Rattle.ram_serve.proofs.Cuts.{first_cut, first_unread, others_cut}
+use Rattle.ram_serve.proofs.Within.{within_first, within_others}
 
 flags_long : (zeros : Bool) → length (client_flags zeros) ≡ 4
 flags_long zeros = refl
@@ -69,6 +71,25 @@ head_partial zeros number count more small short few (Wants option) after may sa
     may.length_fits (same ∙ append_assoc (option_head_bytes option.number (length option.payload)) option.payload after) in
     omega (arith, few, p.1, ap length p.2, length-append option.payload after)
 head_partial zeros number count more small short few (Asks request) after may same = may
+
+-- more was asked for before the flags were whole
+pub flags_asks : (left written : Option (List ℕ)) (a b : Option (List Asked)) → AsksOnly (IsShortAsk left written 4) a b
+    → AsksOnly (IsAskWithin left written Greeted) a b
+flags_asks left written a b asks = within_first Greeted tt left written 4 a b flags_short asks
+
+-- before the head of an option was
+pub head_asks : (zeros : Bool) (left written : Option (List ℕ)) (a b : Option (List Asked)) → AsksOnly (IsShortAsk left written 16) a b
+    → AsksOnly (IsAskWithin left written (Options zeros)) a b
+head_asks zeros left written a b asks = within_first (Options zeros) tt left written 16 a b (head_short zeros) asks
+
+-- and before its data were
+pub option_asks : (zeros : Bool) (left mid written shown : Option (List ℕ)) (faults middle : ℕ) (head : OptionHead)
+    (a b c : Option (List Asked)) → OptionHeadCame left mid faults middle head → shown ≡ written
+    → AsksOnly (IsAskWithin left written (Options zeros)) a b → AsksOnly (IsShortAsk mid shown head.length) b c
+    → AsksOnly (IsAskWithin left written (Options zeros)) a c
+option_asks zeros left mid written shown faults middle head a b c came same before asks =
+    within_others (Options zeros) tt left mid written shown (option_head_bytes head.number head.length) head.length a b c
+    (λ more few. head_partial zeros head.number head.length more came.number_fits came.length_fits few) came.went same before asks
 
 module _ (left left' : Option (List ℕ)) (faults faults' : ℕ) where
   -- the flags did not come whole

@@ -12,13 +12,22 @@ use Rattle.model_nbd.specs.Handshake.{Export, OptionAnswer, option_answer, long_
 use Rattle.model_nbd.specs.Operations.{request_asks}
 use Rattle.model_nbd.specs.Commands.{commands_of}
 use Rattle.ram_nbd.specs.declared.handshake.OptionHead.{OptionHead}
+use Rattle.ram_outside.specs.Conversation.{Asked}
 use Rattle.ram_receive.specs.Receiving.{Went}
 use Rattle.ram_machine.specs.declared.status.Status.{Status}
 use Rattle.ram_machine.specs.declared.status.Status.TheVariants as statuses
-use Rattle.ram_session.specs.Talk.{Phase, BeginsNoMessage}
+use Rattle.ram_session.specs.Talk.{Phase, AwaitsMessage, BeginsNoMessage}
 use Rattle.ram_transmission.specs.Requests.{Fits}
 use Rattle.ram_serve.specs.declared.incoming.Incoming.{Incoming}
 use Rattle.ram_serve.specs.Messages.{EndsAfter, MoreRule}
+
+-- More was asked for in a message of this phase: what had come of it was no whole one, and this was written.
+pub record IsAskWithin (left written : Option (List ℕ)) (phase : Phase) (ask : Asked) : Type 0 where
+  pub awaits : AwaitsMessage phase
+  pub came : List ℕ
+  pub none : BeginsNoMessage phase came
+  pub went : Went left ask.left came
+  pub written_is : ask.written ≡ written
 
 -- the data of a write are in the room
 abbrev pub HoldsData : NbdOperation → (payload room : List ℕ) → Type 0

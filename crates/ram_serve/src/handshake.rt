@@ -5,14 +5,13 @@ ghost use Rattle.ram_nbd.specs.Replies.{export_of};
 ghost use Rattle.ram_nbd.specs.declared.handshake.TheConstants.{REASON_LIMIT};
 ghost use Rattle.ram_text.specs.declared.script.Line.{Line};
 ghost use Rattle.ram_outside.specs.Conversation.{AsksOnly};
-ghost use Rattle.ram_receive.specs.Receiving.{HasWritten};
 ghost use Rattle.ram_machine.specs.States.{State};
 ghost use Rattle.ram_script.specs.Progress.{Beginning};
 ghost use Rattle.ram_session.specs.Talk.{Options, phase_after};
 ghost use Rattle.ram_session.specs.Session.{IsToldBy};
 ghost use Rattle.ram_serve.specs.Handshakes.{IsToBeGreeted, InHandshake, HandshakeLeadsTo, transmits};
 ghost use Rattle.ram_serve.specs.Rooms.{HasMessageRoom};
-ghost use Rattle.ram_serve.specs.Taking.{head_answer};
+ghost use Rattle.ram_serve.specs.Taking.{IsAskWithin, head_answer};
 ghost use Rattle.ram_serve.specs.Turns.{TurnCounts, counts_now};
 
 use crate::messages::{MOST_MESSAGES, tell};
@@ -29,7 +28,7 @@ use ram_outside::Conversation;
 ///
 /// - `turn` (`HandshakeLeadsTo`): from a session that was opened: requests follow, or how it ends.
 /// - `counts` (`TurnCounts`): the count that tells why the session ends rose, and no other.
-/// - `asks` (`IsToldBy`): whenever more was asked for, the greeting and the answers to all messages that had come were written.
+/// - `asks` (`IsToldBy`): whenever more was asked for, the greeting was written, and the answer to each message that had come whole.
 ///
 /// # Answers
 ///
@@ -73,7 +72,7 @@ pub fn shake_hands<T: Conversation>(
 ///
 /// - `turn` (`HandshakeLeadsTo`): from a session that was opened: options follow; or how it ends.
 /// - `counts` (`TurnCounts`): the count that tells why the session ends rose, and no other.
-/// - `asks` (`IsToldBy`): whenever more was asked for, the greeting was written.
+/// - `asks` (`IsToldBy`): whenever more was asked for, the greeting was written, and the flags had not come whole.
 ///
 /// # Answers
 ///
@@ -108,7 +107,7 @@ pub fn greet<T: Conversation>(talk: &mut T) -> Result<bool, Status>
 ///
 /// - `turn` (`HandshakeLeadsTo`): from what stands between two options: requests follow, or how the session ends.
 /// - `counts` (`TurnCounts`): the count that tells why the session ends rose, and no other.
-/// - `asks` (`IsToldBy`): whenever more was asked for, the answers to all messages that had come were written.
+/// - `asks` (`IsToldBy`): whenever more was asked for, the answer to each message that had come whole was written.
 ///
 /// # Answers
 ///
@@ -160,7 +159,7 @@ pub fn choose_options<T: Conversation>(
 ///
 /// - `turn` (`HandshakeLeadsTo`): from what stands between two options: the option is answered; or how the session ends.
 /// - `counts` (`TurnCounts`): the count that tells why the session ends rose, and no other.
-/// - `asks` (`HasWritten`): whenever more was asked for, all was written that had been told before.
+/// - `asks` (`IsAskWithin`): whenever more was asked for, the option had not come whole, and what was told before was written.
 ///
 /// # Answers
 ///
@@ -188,7 +187,8 @@ pub fn serve_option<T: Conversation>(
         (T.left talk.new) (T.Sink.Sink.written (T.report talk.new)) result }
     ensures counts { (image : ℕ) → TurnCounts (counts_now T.Conversation T.Sink.Sink talk.old image)
         (counts_now T.Conversation T.Sink.Sink talk.new image) result }
-    ensures asks { AsksOnly (HasWritten (T.Sink.Sink.written (T.report talk.old))) (T.asked talk.old) (T.asked talk.new) }
+    ensures asks { AsksOnly (IsAskWithin (T.left talk.old) (T.Sink.Sink.written (T.report talk.old)) (Options zeros))
+        (T.asked talk.old) (T.asked talk.new) }
     ensures room { HasMessageRoom rooms.new }
 {
     let head = match take_option(talk, &mut rooms.message) {

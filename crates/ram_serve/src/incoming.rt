@@ -1,12 +1,12 @@
 //! The requests of a client, as they come.
 ghost use Rattle.std.specs.Prelude.{◌≡◌, ◌*◌, ◌<◌, ◌≤◌, ◌^◌, vec_capacity};
 ghost use Rattle.ram_outside.specs.Conversation.{AsksOnly};
-ghost use Rattle.ram_receive.specs.Receiving.{HasWritten};
+ghost use Rattle.ram_receive.specs.Receiving.{IsShortAsk};
 ghost use Rattle.ram_session.specs.Talk.{Transmission};
 ghost use Rattle.ram_transmission.specs.declared.requests.TheConstants.{REQUEST_ROOM};
 ghost use Rattle.ram_serve.specs.Messages.{OverRule};
 ghost use Rattle.model_nbd.specs.Messages.{data_after};
-ghost use Rattle.ram_serve.specs.Taking.{TakeRule, HeaderCame, DataRule, RequestCame, TakesData};
+ghost use Rattle.ram_serve.specs.Taking.{IsAskWithin, TakeRule, HeaderCame, DataRule, RequestCame, TakesData};
 
 use crate::messages::{read_over, receive_data, receive_first};
 use model_nbd::{Header, NbdOperation, WRITE};
@@ -28,7 +28,7 @@ pub struct Incoming {
 /// # Clauses
 ///
 /// - `rule` (`TakeRule`): what came, and what is left to come.
-/// - `asks` (`HasWritten`): whenever more was asked for, what is written by now was written.
+/// - `asks` (`IsAskWithin`): whenever more was asked for, the request had not come whole, and what is written by now was written.
 ///
 /// # Answers
 ///
@@ -49,7 +49,8 @@ pub fn take_request<T: Conversation>(
         (RequestCame (T.left talk.old) (T.left talk.new) (T.faults talk.old) (T.faults talk.new) size room.new.items)
         Transmission result }
     ensures same { T.report talk.new ≡ T.report talk.old }
-    ensures asks { AsksOnly (HasWritten (T.Sink.Sink.written (T.report talk.old))) (T.asked talk.old) (T.asked talk.new) }
+    ensures asks { AsksOnly (IsAskWithin (T.left talk.old) (T.Sink.Sink.written (T.report talk.old)) Transmission)
+        (T.asked talk.old) (T.asked talk.new) }
     ensures room { vec_capacity room.old ≤ vec_capacity room.new }
 {
     let header = match take_header(talk) {
@@ -71,7 +72,8 @@ fn take_header<T: Conversation>(talk: &mut T) -> Result<Header, Status>
     ensures rule { TakeRule (T.left talk.old) (T.left talk.new) (T.faults talk.old) (T.faults talk.new)
         (HeaderCame (T.left talk.old) (T.left talk.new) (T.faults talk.old) (T.faults talk.new)) Transmission result }
     ensures same { T.report talk.new ≡ T.report talk.old }
-    ensures asks { AsksOnly (HasWritten (T.Sink.Sink.written (T.report talk.old))) (T.asked talk.old) (T.asked talk.new) }
+    ensures asks { AsksOnly (IsAskWithin (T.left talk.old) (T.Sink.Sink.written (T.report talk.old)) Transmission)
+        (T.asked talk.old) (T.asked talk.new) }
 {
     let mut bytes = [0; HEADER_BYTES];
     match receive_first(talk, &mut bytes) {
@@ -96,7 +98,8 @@ fn take_data<T: Conversation>(
     ensures rule { DataRule (T.left talk.old) (T.left talk.new) (T.faults talk.old) (T.faults talk.new)
         header operation room.new.items result }
     ensures same { T.report talk.new ≡ T.report talk.old }
-    ensures asks { AsksOnly (HasWritten (T.Sink.Sink.written (T.report talk.old))) (T.asked talk.old) (T.asked talk.new) }
+    ensures asks { AsksOnly (IsShortAsk (T.left talk.old) (T.Sink.Sink.written (T.report talk.old)) (data_after header))
+        (T.asked talk.old) (T.asked talk.new) }
     ensures room { vec_capacity room.old ≤ vec_capacity room.new }
 {
     match operation {
@@ -115,7 +118,8 @@ fn pass_data<T: Conversation>(
     ensures rule { OverRule (T.left talk.old) (T.left talk.new) (T.faults talk.old) (T.faults talk.new)
         (data_after header) result }
     ensures same { T.report talk.new ≡ T.report talk.old }
-    ensures asks { AsksOnly (HasWritten (T.Sink.Sink.written (T.report talk.old))) (T.asked talk.old) (T.asked talk.new) }
+    ensures asks { AsksOnly (IsShortAsk (T.left talk.old) (T.Sink.Sink.written (T.report talk.old)) (data_after header))
+        (T.asked talk.old) (T.asked talk.new) }
     ensures room { vec_capacity room.old ≤ vec_capacity room.new }
 {
     let count = if header.kind == WRITE { header.len } else { 0 };

@@ -1,7 +1,7 @@
 //! Messages that come and go.
 ghost use Rattle.std.specs.Prelude.{◌≡◌, ◌<◌, ◌≤◌, length, vec_capacity};
 ghost use Rattle.ram_outside.specs.Conversation.{AsksOnly};
-ghost use Rattle.ram_receive.specs.Receiving.{HasWritten};
+ghost use Rattle.ram_receive.specs.Receiving.{IsShortAsk};
 ghost use Rattle.ram_serve.specs.Messages.{ToldRule, FirstRule, MoreRule, OverRule};
 
 use ram_machine::status::Status;
@@ -47,7 +47,8 @@ pub fn receive_first<T: Conversation>(talk: &mut T, into: &mut [u8]) -> Result<(
     ensures rule { FirstRule (T.left talk.old) (T.left talk.new) (T.faults talk.old) (T.faults talk.new) into.new result }
     ensures length { length into.new ≡ length into.old }
     ensures same { T.report talk.new ≡ T.report talk.old }
-    ensures asks { AsksOnly (HasWritten (T.Sink.Sink.written (T.report talk.old))) (T.asked talk.old) (T.asked talk.new) }
+    ensures asks { AsksOnly (IsShortAsk (T.left talk.old) (T.Sink.Sink.written (T.report talk.old)) (length into.old))
+        (T.asked talk.old) (T.asked talk.new) }
 {
     match receive(talk, into) {
         Received::Whole => Ok(()),
@@ -70,7 +71,8 @@ fn receive_more<T: Conversation>(talk: &mut T, into: &mut [u8]) -> Result<(), St
     ensures rule { MoreRule (T.left talk.old) (T.left talk.new) (T.faults talk.old) (T.faults talk.new) (length into.old) into.new result }
     ensures length { length into.new ≡ length into.old }
     ensures same { T.report talk.new ≡ T.report talk.old }
-    ensures asks { AsksOnly (HasWritten (T.Sink.Sink.written (T.report talk.old))) (T.asked talk.old) (T.asked talk.new) }
+    ensures asks { AsksOnly (IsShortAsk (T.left talk.old) (T.Sink.Sink.written (T.report talk.old)) (length into.old))
+        (T.asked talk.old) (T.asked talk.new) }
 {
     match receive(talk, into) {
         Received::Whole => Ok(()),
@@ -96,7 +98,8 @@ pub fn receive_data<T: Conversation>(
     requires room { count ≤ vec_capacity room.old }
     ensures rule { MoreRule (T.left talk.old) (T.left talk.new) (T.faults talk.old) (T.faults talk.new) count room.new.items result }
     ensures same { T.report talk.new ≡ T.report talk.old }
-    ensures asks { AsksOnly (HasWritten (T.Sink.Sink.written (T.report talk.old))) (T.asked talk.old) (T.asked talk.new) }
+    ensures asks { AsksOnly (IsShortAsk (T.left talk.old) (T.Sink.Sink.written (T.report talk.old)) count)
+        (T.asked talk.old) (T.asked talk.new) }
     ensures room { vec_capacity room.old ≤ vec_capacity room.new }
 {
     room.clear();
@@ -124,7 +127,8 @@ pub fn read_over<T: Conversation>(
     requires room { 32768 ≤ vec_capacity room.old }
     ensures rule { OverRule (T.left talk.old) (T.left talk.new) (T.faults talk.old) (T.faults talk.new) count result }
     ensures same { T.report talk.new ≡ T.report talk.old }
-    ensures asks { AsksOnly (HasWritten (T.Sink.Sink.written (T.report talk.old))) (T.asked talk.old) (T.asked talk.new) }
+    ensures asks { AsksOnly (IsShortAsk (T.left talk.old) (T.Sink.Sink.written (T.report talk.old)) count)
+        (T.asked talk.old) (T.asked talk.new) }
     ensures room { vec_capacity room.old ≤ vec_capacity room.new }
 {
     let mut left = count;

@@ -1,10 +1,10 @@
 //! The flags and the options of a client, as they come.
 ghost use Rattle.std.specs.Prelude.{◌≡◌, ◌≤◌, Bool, vec_capacity};
 ghost use Rattle.ram_outside.specs.Conversation.{AsksOnly};
-ghost use Rattle.ram_receive.specs.Receiving.{HasWritten};
+ghost use Rattle.ram_receive.specs.Receiving.{IsShortAsk};
 ghost use Rattle.ram_session.specs.Talk.{Greeted, Options};
 ghost use Rattle.ram_transmission.specs.declared.requests.TheConstants.{REQUEST_ROOM};
-ghost use Rattle.ram_serve.specs.Taking.{TakeRule, FlagsCame, OptionHeadCame, OptionDataRule, OptionCame};
+ghost use Rattle.ram_serve.specs.Taking.{IsAskWithin, TakeRule, FlagsCame, OptionHeadCame, OptionDataRule, OptionCame};
 
 use crate::messages::{read_over, receive_data, receive_first};
 use model_nbd::OPTION_LIMIT;
@@ -19,7 +19,7 @@ use ram_outside::Conversation;
 /// # Clauses
 ///
 /// - `rule` (`TakeRule`): what came, and what is left to come.
-/// - `asks` (`HasWritten`): whenever more was asked for, what is written by now was written.
+/// - `asks` (`IsAskWithin`): whenever more was asked for, the flags had not come whole, and what is written by now was written.
 ///
 /// # Answers
 ///
@@ -34,7 +34,8 @@ pub fn take_flags<T: Conversation>(talk: &mut T) -> Result<bool, Status>
     ensures rule { TakeRule (T.left talk.old) (T.left talk.new) (T.faults talk.old) (T.faults talk.new)
         (FlagsCame (T.left talk.old) (T.left talk.new) (T.faults talk.old) (T.faults talk.new)) Greeted result }
     ensures same { T.report talk.new ≡ T.report talk.old }
-    ensures asks { AsksOnly (HasWritten (T.Sink.Sink.written (T.report talk.old))) (T.asked talk.old) (T.asked talk.new) }
+    ensures asks { AsksOnly (IsAskWithin (T.left talk.old) (T.Sink.Sink.written (T.report talk.old)) Greeted)
+        (T.asked talk.old) (T.asked talk.new) }
 {
     let mut bytes = [0; CLIENT_FLAGS_BYTES];
     match receive_first(talk, &mut bytes) {
@@ -52,7 +53,7 @@ pub fn take_flags<T: Conversation>(talk: &mut T) -> Result<bool, Status>
 /// # Clauses
 ///
 /// - `rule` (`TakeRule`): what came, and what is left to come.
-/// - `asks` (`HasWritten`): whenever more was asked for, what is written by now was written.
+/// - `asks` (`IsAskWithin`): whenever more was asked for, the option had not come whole, and what is written by now was written.
 ///
 /// # Answers
 ///
@@ -68,7 +69,8 @@ pub fn take_option<T: Conversation>(talk: &mut T, room: &mut Vec<u8>) -> Result<
         (OptionCame (T.left talk.old) (T.left talk.new) (T.faults talk.old) (T.faults talk.new) room.new.items)
         (Options zeros) result }
     ensures same { T.report talk.new ≡ T.report talk.old }
-    ensures asks { AsksOnly (HasWritten (T.Sink.Sink.written (T.report talk.old))) (T.asked talk.old) (T.asked talk.new) }
+    ensures asks { (zeros : Bool) → AsksOnly (IsAskWithin (T.left talk.old) (T.Sink.Sink.written (T.report talk.old)) (Options zeros))
+        (T.asked talk.old) (T.asked talk.new) }
     ensures room { vec_capacity room.old ≤ vec_capacity room.new }
 {
     let head = match take_option_head(talk) {
@@ -87,7 +89,8 @@ fn take_option_head<T: Conversation>(talk: &mut T) -> Result<OptionHead, Status>
         (OptionHeadCame (T.left talk.old) (T.left talk.new) (T.faults talk.old) (T.faults talk.new))
         (Options zeros) result }
     ensures same { T.report talk.new ≡ T.report talk.old }
-    ensures asks { AsksOnly (HasWritten (T.Sink.Sink.written (T.report talk.old))) (T.asked talk.old) (T.asked talk.new) }
+    ensures asks { (zeros : Bool) → AsksOnly (IsAskWithin (T.left talk.old) (T.Sink.Sink.written (T.report talk.old)) (Options zeros))
+        (T.asked talk.old) (T.asked talk.new) }
 {
     let mut bytes = [0; OPTION_HEAD_BYTES];
     match receive_first(talk, &mut bytes) {
@@ -110,7 +113,8 @@ fn take_option_data<T: Conversation>(
     ensures rule { OptionDataRule (T.left talk.old) (T.left talk.new) (T.faults talk.old) (T.faults talk.new)
         head room.new.items result }
     ensures same { T.report talk.new ≡ T.report talk.old }
-    ensures asks { AsksOnly (HasWritten (T.Sink.Sink.written (T.report talk.old))) (T.asked talk.old) (T.asked talk.new) }
+    ensures asks { AsksOnly (IsShortAsk (T.left talk.old) (T.Sink.Sink.written (T.report talk.old)) head.length)
+        (T.asked talk.old) (T.asked talk.new) }
     ensures room { vec_capacity room.old ≤ vec_capacity room.new }
 {
     if head.length > OPTION_LIMIT {

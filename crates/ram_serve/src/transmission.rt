@@ -2,14 +2,15 @@
 ghost use Rattle.std.specs.Prelude.{◌≡◌, ℕ, ◌+◌, ◌*◌, ◌<◌, ◌^◌, List};
 ghost use Rattle.ram_text.specs.declared.script.Line.{Line};
 ghost use Rattle.ram_outside.specs.Conversation.{AsksOnly};
-ghost use Rattle.ram_receive.specs.Receiving.{HasWritten};
 ghost use Rattle.ram_machine.specs.States.{Served, Disc};
 ghost use Rattle.ram_machine.specs.Inserted.{Stands, faults_of};
 ghost use Rattle.ram_script.specs.Progress.{Beginning};
+ghost use Rattle.ram_session.specs.Talk.{Transmission};
+ghost use Rattle.ram_session.specs.Session.{IsToldBy};
 ghost use Rattle.ram_transmission.specs.Requests.{Fits};
 ghost use Rattle.ram_serve.specs.declared.messages.TheConstants.{MOST_MESSAGES};
 ghost use Rattle.ram_serve.specs.Rooms.{HasMessageRoom};
-ghost use Rattle.ram_session.specs.Session.{IsToldBy};
+ghost use Rattle.ram_serve.specs.Taking.{IsAskWithin};
 ghost use Rattle.ram_serve.specs.Turns.{BetweenRequests, RequestsLeadTo, ReplyRule, ReplyCount, AnswerRule, TurnCounts, counts_now};
 
 use crate::incoming::{Incoming, take_request};
@@ -28,7 +29,7 @@ use ram_transmission::answer_request;
 ///
 /// - `turn` (`RequestsLeadTo`): from what stands between two requests: how the session ends; or `MOST_MESSAGES` more were answered.
 /// - `counts` (`TurnCounts`): the count that tells why the session ends rose, and no other.
-/// - `asks` (`IsToldBy`): whenever more was asked for, the replies to all messages that had come were written.
+/// - `asks` (`IsToldBy`): whenever more was asked for, the answer to each message that had come whole was written.
 ///
 /// # Answers
 ///
@@ -75,7 +76,7 @@ pub fn serve_requests<D: Drive, T: Conversation>(
 ///
 /// - `turn` (`RequestsLeadTo`): from what stands between two requests: the request is answered; or how the session ends.
 /// - `counts` (`TurnCounts`): the count that tells why the session ends rose, and no other.
-/// - `asks` (`HasWritten`): whenever more was asked for, all was written that had been told before.
+/// - `asks` (`IsAskWithin`): whenever more was asked for, the request had not come whole, and what was told before was written.
 ///
 /// # Answers
 ///
@@ -103,7 +104,8 @@ pub fn serve_request<D: Drive, T: Conversation>(
     ensures counts { TurnCounts
         (counts_now T.Conversation T.Sink.Sink talk.old (faults_of D.Caching D.Image.Image inserted.old))
         (counts_now T.Conversation T.Sink.Sink talk.new (faults_of D.Caching D.Image.Image inserted.new)) result }
-    ensures asks { AsksOnly (HasWritten (T.Sink.Sink.written (T.report talk.old))) (T.asked talk.old) (T.asked talk.new) }
+    ensures asks { AsksOnly (IsAskWithin (T.left talk.old) (T.Sink.Sink.written (T.report talk.old)) Transmission)
+        (T.asked talk.old) (T.asked talk.new) }
     ensures room { HasMessageRoom rooms.new }
 {
     match take_request(talk, size, &mut rooms.message) {

@@ -19,7 +19,7 @@ use Rattle.ram_script.specs.Progress.{Beginning}
 use Rattle.ram_script.specs.Endings.{Aftermath}
 use Rattle.ram_script.specs.RunCounts.{Counts, SameCounts, OnlySourceRose, OnlySinkRose, OnlyImageRose}
 use Rattle.ram_session.specs.Doing.{Did, Doing, WereGood, FailsInNext, FailsBeforeReply}
-use Rattle.ram_session.specs.Talk.{Phase, Transmission, Left, Violation, Turned, Talk, BeginsNoMessage, sent_in, told_in}
+use Rattle.ram_session.specs.Talk.{Phase, Transmission, Left, Violation, Turned, Talk, AwaitsMessage, BeginsNoMessage, sent_in, told_in}
 use Rattle.ram_session.specs.Opening.{IsSessionOpened, IsOpenedInPart, RefusesFault, export_after}
 
 -- A session so far: it was opened; the messages that came, the state and the phase that they lead to, and what follows them of what the
@@ -43,10 +43,15 @@ abbrev pub earlier : List Turned → List ℕ
 earlier [] = []
 earlier (turned ∷ before) = told_in before
 
--- More was asked for when these messages had come, and all that was due was told. (Nothing is kept back.)
+-- More was asked for when these messages had come: all that was due was told, another message may come, and what had come of it was no
+-- whole one. (No answer is kept back, and nothing is awaited of a client that left.)
 pub record IsToldBy (first : Beginning) (faults : List Line) (ask : Asked) : Type 0 where
   pub far : SessionSoFar first faults
   pub written_is : ask.written ≡ Some (first.report ++ told_in far.turns)
+  pub awaits : AwaitsMessage far.phase
+  pub came : List ℕ
+  pub no_message : BeginsNoMessage far.phase came
+  pub rest_is : prepend_known came ask.left ≡ Some far.rest
 
 -- How a session ends, of which so much came: what is left to come, what is written, and which states may be left.
 module _ {first : Beginning} {faults : List Line} (far : SessionSoFar first faults) (leaves : State → Type 0)

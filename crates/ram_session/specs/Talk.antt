@@ -52,6 +52,12 @@ MayCome (Options zeros) (Wants option) = IsOptionRequest option
 MayCome Transmission (Asks request) = IsRequest request
 MayCome _ _ = ⊥
 
+-- another message may come in this phase
+abbrev pub AwaitsMessage : Phase → Type 0
+AwaitsMessage Left = ⊥
+AwaitsMessage Violation = ⊥
+AwaitsMessage _ = Unit {0}
+
 -- these bytes do not begin with a whole message that may come in this phase
 abbrev pub BeginsNoMessage : Phase → List ℕ → Type 0
 BeginsNoMessage phase bytes =

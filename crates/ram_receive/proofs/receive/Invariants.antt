@@ -1,6 +1,6 @@
 use Rattle.std.proofs.Common.{◌≡◌, ◌-◌, ◌≤◌, length, take}
 use Rattle.ram_outside.specs.Conversation.{AsksOnly}
-use Rattle.ram_receive.specs.Receiving.{Went, HasWritten}
+use Rattle.ram_receive.specs.Receiving.{Went, IsShortAsk}
 use Rattle.ram_receive.proofs.receive.Given as goal
 
 -- the front of the slice came from the conversation
@@ -11,7 +11,7 @@ invariant-loop-at g l = record {
   went : Went (g.T.Conversation.left l.fn.talk) (g.T.Conversation.left l.talk) (take l.at l.into);
   count : g.T.Conversation.faults l.talk ≡ g.T.Conversation.faults l.fn.talk;
   same : g.T.Conversation.report l.talk ≡ g.T.Conversation.report l.fn.talk;
-  asks : AsksOnly (HasWritten (g.T.Sink.Sink.written (g.T.Conversation.report l.fn.talk)))
+  asks : AsksOnly (IsShortAsk (g.T.Conversation.left l.fn.talk) (g.T.Sink.Sink.written (g.T.Conversation.report l.fn.talk)) (length l.fn.into))
       (g.T.Conversation.asked l.fn.talk) (g.T.Conversation.asked l.talk);
 }
 

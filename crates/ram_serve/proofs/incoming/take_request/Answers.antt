@@ -1,8 +1,5 @@
-use Rattle.std.proofs.Common.{subst}
-use Rattle.ram_outside.specs.Conversation.{AsksOnly}
-use Rattle.ram_outside.proofs.Additions.{added_then}
-use Rattle.ram_receive.specs.Receiving.{HasWritten}
-use Rattle.ram_serve.proofs.Requested.{data_cut, request_came}
+use Rattle.std.proofs.Common.{ap}
+use Rattle.ram_serve.proofs.Requested.{data_asks, data_cut, request_came}
 use Rattle.ram_serve.proofs.incoming.take_request.Goals as goal
 
 pub returns-in-Ok-take_data-clause-rule : goal.returns-in-Ok-take_data-clause-rule
@@ -14,10 +11,9 @@ returns-in-Ok-take_data-clause-rule g c =
 
 pub returns-in-Ok-take_data-clause-asks : goal.returns-in-Ok-take_data-clause-asks
 returns-in-Ok-take_data-clause-asks g c =
-    added_then (HasWritten (g.T.Sink.Sink.written (g.T.Conversation.report c.args.talk.now))) (g.T.Conversation.asked c.args.talk.now)
-    (g.T.Conversation.asked c.take_header.new.talk) (g.T.Conversation.asked c.take_data.new.talk) c.in-Ok.ensures.asks
-    (subst (λ sink. AsksOnly (HasWritten (g.T.Sink.Sink.written sink)) (g.T.Conversation.asked c.take_header.new.talk) (g.T.Conversation.asked c.take_data.new.talk))
-    c.in-Ok.ensures.same c.take_data.ensures.asks)
+    data_asks (g.T.Conversation.left c.args.talk.now) (g.T.Conversation.left c.take_header.new.talk) (g.T.Sink.Sink.written (g.T.Conversation.report c.args.talk.now)) (g.T.Sink.Sink.written (g.T.Conversation.report c.take_header.new.talk))
+    (g.T.Conversation.faults c.args.talk.now) (g.T.Conversation.faults c.take_header.new.talk) c.in-Ok.header (g.T.Conversation.asked c.args.talk.now) (g.T.Conversation.asked c.take_header.new.talk) (g.T.Conversation.asked c.take_data.new.talk)
+    c.in-Ok.ensures.rule (ap (λ sink. g.T.Sink.Sink.written sink) c.in-Ok.ensures.same) c.in-Ok.ensures.asks c.take_data.ensures.asks
 
 pub returns-in-Err-take_data-clause-rule : goal.returns-in-Err-take_data-clause-rule
 returns-in-Err-take_data-clause-rule g c =
@@ -29,7 +25,6 @@ returns-in-Err-take_data-clause-rule g c =
 
 pub returns-in-Err-take_data-clause-asks : goal.returns-in-Err-take_data-clause-asks
 returns-in-Err-take_data-clause-asks g c =
-    added_then (HasWritten (g.T.Sink.Sink.written (g.T.Conversation.report c.args.talk.now))) (g.T.Conversation.asked c.args.talk.now)
-    (g.T.Conversation.asked c.take_header.new.talk) (g.T.Conversation.asked c.take_data.new.talk) c.in-Ok.ensures.asks
-    (subst (λ sink. AsksOnly (HasWritten (g.T.Sink.Sink.written sink)) (g.T.Conversation.asked c.take_header.new.talk) (g.T.Conversation.asked c.take_data.new.talk))
-    c.in-Ok.ensures.same c.take_data.ensures.asks)
+    data_asks (g.T.Conversation.left c.args.talk.now) (g.T.Conversation.left c.take_header.new.talk) (g.T.Sink.Sink.written (g.T.Conversation.report c.args.talk.now)) (g.T.Sink.Sink.written (g.T.Conversation.report c.take_header.new.talk))
+    (g.T.Conversation.faults c.args.talk.now) (g.T.Conversation.faults c.take_header.new.talk) c.in-Ok.header (g.T.Conversation.asked c.args.talk.now) (g.T.Conversation.asked c.take_header.new.talk) (g.T.Conversation.asked c.take_data.new.talk)
+    c.in-Ok.ensures.rule (ap (λ sink. g.T.Sink.Sink.written sink) c.in-Ok.ensures.same) c.in-Ok.ensures.asks c.take_data.ensures.asks

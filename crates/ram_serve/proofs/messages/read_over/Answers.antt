@@ -1,9 +1,7 @@
-use Rattle.std.proofs.Common.{◌-◌, ◌++◌, arith, ◌∙◌, subst}
+use Rattle.std.proofs.Common.{◌-◌, ◌++◌, arith, ap, ◌∙◌}
 use Rattle.std.proofs.lemmas.Result.{err_from_is_err_and}
-use Rattle.ram_outside.specs.Conversation.{AsksOnly}
-use Rattle.ram_outside.proofs.Additions.{added_then}
-use Rattle.ram_receive.specs.Receiving.{HasWritten}
 use Rattle.ram_serve.proofs.Came.{over_more, over_stopped}
+use Rattle.ram_serve.proofs.Within.{short_further}
 use Rattle.ram_serve.proofs.messages.read_over.Goals as goal
 
 pub returns-in_err-receive_data-clause-rule : goal.returns-in_err-receive_data-clause-rule
@@ -18,10 +16,10 @@ returns-in_err-receive_data-clause-rule g c =
 
 pub returns-in_err-receive_data-clause-asks : goal.returns-in_err-receive_data-clause-asks
 returns-in_err-receive_data-clause-asks g c =
-    added_then (HasWritten (g.T.Sink.Sink.written (g.T.Conversation.report c.args.talk.now))) (g.T.Conversation.asked c.args.talk.now)
-    (g.T.Conversation.asked c.loop-left.talk) (g.T.Conversation.asked c.receive_data.new.talk) c.loop-left.invariant.asks
-    (subst (λ sink. AsksOnly (HasWritten (g.T.Sink.Sink.written sink)) (g.T.Conversation.asked c.loop-left.talk) (g.T.Conversation.asked c.receive_data.new.talk))
-    c.loop-left.invariant.same c.receive_data.ensures.asks)
+    short_further (g.T.Conversation.left c.args.talk.now) (g.T.Conversation.left c.loop-left.talk) (g.T.Sink.Sink.written (g.T.Conversation.report c.args.talk.now)) (g.T.Sink.Sink.written (g.T.Conversation.report c.loop-left.talk))
+    c.loop-left.invariant.came.0 c.min-part.result c.args.count (g.T.Conversation.asked c.args.talk.now) (g.T.Conversation.asked c.loop-left.talk) (g.T.Conversation.asked c.receive_data.new.talk)
+    (omega (arith, c.loop-left.invariant.came.1, c.min-part.ensures, c.loop-left.invariant.few)) c.loop-left.invariant.came.2
+    (ap (λ sink. g.T.Sink.Sink.written sink) c.loop-left.invariant.same) c.loop-left.invariant.asks c.receive_data.ensures.asks
 
 pub loop-left-preserved : goal.loop-left-preserved
 loop-left-preserved g c =
@@ -39,9 +37,9 @@ loop-left-preserved g c =
       );
       same = c.receive_data.ensures.same ∙ c.loop-left.invariant.same;
       asks =
-          added_then (HasWritten (g.T.Sink.Sink.written (g.T.Conversation.report c.args.talk.now))) (g.T.Conversation.asked c.args.talk.now)
-          (g.T.Conversation.asked c.loop-left.talk) (g.T.Conversation.asked c.receive_data.new.talk) c.loop-left.invariant.asks
-          (subst (λ sink. AsksOnly (HasWritten (g.T.Sink.Sink.written sink)) (g.T.Conversation.asked c.loop-left.talk) (g.T.Conversation.asked c.receive_data.new.talk))
-          c.loop-left.invariant.same c.receive_data.ensures.asks);
+          short_further (g.T.Conversation.left c.args.talk.now) (g.T.Conversation.left c.loop-left.talk) (g.T.Sink.Sink.written (g.T.Conversation.report c.args.talk.now)) (g.T.Sink.Sink.written (g.T.Conversation.report c.loop-left.talk))
+          c.loop-left.invariant.came.0 c.min-part.result c.args.count (g.T.Conversation.asked c.args.talk.now) (g.T.Conversation.asked c.loop-left.talk) (g.T.Conversation.asked c.receive_data.new.talk)
+          (omega (arith, c.loop-left.invariant.came.1, c.min-part.ensures, c.loop-left.invariant.few)) c.loop-left.invariant.came.2
+          (ap (λ sink. g.T.Sink.Sink.written sink) c.loop-left.invariant.same) c.loop-left.invariant.asks c.receive_data.ensures.asks;
       room = omega (arith, c.loop-left.invariant.room, c.receive_data.ensures.room);
     }

@@ -1,4 +1,4 @@
-use Rattle.ram_serve.proofs.Wanted.{flags_cut, flags_unread}
+use Rattle.ram_serve.proofs.Wanted.{flags_asks, flags_cut, flags_unread}
 use Rattle.ram_serve.proofs.options.take_flags.Goals as goal
 
 pub returns-in-Err-clause-rule : goal.returns-in-Err-clause-rule
@@ -12,3 +12,15 @@ returns-in-None-clause-rule g c =
     flags_unread (g.T.Conversation.left c.args.talk.now) (g.T.Conversation.left c.receive_first.new.talk)
     (g.T.Conversation.faults c.args.talk.now) (g.T.Conversation.faults c.receive_first.new.talk) c.receive_first.new.into
     c.receive_first.ensures.length c.in-None.ensures.none c.in-Ok.ensures.rule.0 c.in-Ok.ensures.rule.1
+
+pub returns-in-Err-clause-asks : goal.returns-in-Err-clause-asks
+returns-in-Err-clause-asks g c =
+    flags_asks (g.T.Conversation.left c.args.talk.now) (g.T.Sink.Sink.written (g.T.Conversation.report c.args.talk.now)) (g.T.Conversation.asked c.args.talk.now) (g.T.Conversation.asked c.receive_first.new.talk) c.receive_first.ensures.asks
+
+pub returns-in-None-clause-asks : goal.returns-in-None-clause-asks
+returns-in-None-clause-asks g c =
+    flags_asks (g.T.Conversation.left c.args.talk.now) (g.T.Sink.Sink.written (g.T.Conversation.report c.args.talk.now)) (g.T.Conversation.asked c.args.talk.now) (g.T.Conversation.asked c.receive_first.new.talk) c.receive_first.ensures.asks
+
+pub returns-in-Some-clause-asks : goal.returns-in-Some-clause-asks
+returns-in-Some-clause-asks g c =
+    flags_asks (g.T.Conversation.left c.args.talk.now) (g.T.Sink.Sink.written (g.T.Conversation.report c.args.talk.now)) (g.T.Conversation.asked c.args.talk.now) (g.T.Conversation.asked c.receive_first.new.talk) c.receive_first.ensures.asks

@@ -1,8 +1,5 @@
-use Rattle.std.proofs.Common.{subst}
-use Rattle.ram_outside.specs.Conversation.{AsksOnly}
-use Rattle.ram_outside.proofs.Additions.{added_then}
-use Rattle.ram_receive.specs.Receiving.{HasWritten}
-use Rattle.ram_serve.proofs.Wanted.{option_came, option_cut}
+use Rattle.std.proofs.Common.{ap}
+use Rattle.ram_serve.proofs.Wanted.{option_asks, option_came, option_cut}
 use Rattle.ram_serve.proofs.options.take_option.Goals as goal
 
 pub returns-in-Ok-take_option_data-clause-rule : goal.returns-in-Ok-take_option_data-clause-rule
@@ -12,11 +9,11 @@ returns-in-Ok-take_option_data-clause-rule g c = λ zeros.
     c.in-Ok.head c.take_option_data.new.room.items (c.in-Ok.ensures.rule zeros) c.in-Ok-take_option_data.ensures.rule
 
 pub returns-in-Ok-take_option_data-clause-asks : goal.returns-in-Ok-take_option_data-clause-asks
-returns-in-Ok-take_option_data-clause-asks g c =
-    added_then (HasWritten (g.T.Sink.Sink.written (g.T.Conversation.report c.args.talk.now))) (g.T.Conversation.asked c.args.talk.now)
-    (g.T.Conversation.asked c.take_option_head.new.talk) (g.T.Conversation.asked c.take_option_data.new.talk) c.in-Ok.ensures.asks
-    (subst (λ sink. AsksOnly (HasWritten (g.T.Sink.Sink.written sink)) (g.T.Conversation.asked c.take_option_head.new.talk) (g.T.Conversation.asked c.take_option_data.new.talk))
-    c.in-Ok.ensures.same c.take_option_data.ensures.asks)
+returns-in-Ok-take_option_data-clause-asks g c = λ zeros.
+    option_asks zeros (g.T.Conversation.left c.args.talk.now) (g.T.Conversation.left c.take_option_head.new.talk) (g.T.Sink.Sink.written (g.T.Conversation.report c.args.talk.now)) (g.T.Sink.Sink.written (g.T.Conversation.report c.take_option_head.new.talk))
+    (g.T.Conversation.faults c.args.talk.now) (g.T.Conversation.faults c.take_option_head.new.talk) c.in-Ok.head (g.T.Conversation.asked c.args.talk.now) (g.T.Conversation.asked c.take_option_head.new.talk) (g.T.Conversation.asked c.take_option_data.new.talk)
+    (c.in-Ok.ensures.rule zeros) (ap (λ sink. g.T.Sink.Sink.written sink) c.in-Ok.ensures.same) (c.in-Ok.ensures.asks zeros)
+    c.take_option_data.ensures.asks
 
 pub returns-in-Err-take_option_data-clause-rule : goal.returns-in-Err-take_option_data-clause-rule
 returns-in-Err-take_option_data-clause-rule g c = λ zeros.
@@ -26,8 +23,8 @@ returns-in-Err-take_option_data-clause-rule g c = λ zeros.
     c.in-Err-take_option_data.ensures.rule
 
 pub returns-in-Err-take_option_data-clause-asks : goal.returns-in-Err-take_option_data-clause-asks
-returns-in-Err-take_option_data-clause-asks g c =
-    added_then (HasWritten (g.T.Sink.Sink.written (g.T.Conversation.report c.args.talk.now))) (g.T.Conversation.asked c.args.talk.now)
-    (g.T.Conversation.asked c.take_option_head.new.talk) (g.T.Conversation.asked c.take_option_data.new.talk) c.in-Ok.ensures.asks
-    (subst (λ sink. AsksOnly (HasWritten (g.T.Sink.Sink.written sink)) (g.T.Conversation.asked c.take_option_head.new.talk) (g.T.Conversation.asked c.take_option_data.new.talk))
-    c.in-Ok.ensures.same c.take_option_data.ensures.asks)
+returns-in-Err-take_option_data-clause-asks g c = λ zeros.
+    option_asks zeros (g.T.Conversation.left c.args.talk.now) (g.T.Conversation.left c.take_option_head.new.talk) (g.T.Sink.Sink.written (g.T.Conversation.report c.args.talk.now)) (g.T.Sink.Sink.written (g.T.Conversation.report c.take_option_head.new.talk))
+    (g.T.Conversation.faults c.args.talk.now) (g.T.Conversation.faults c.take_option_head.new.talk) c.in-Ok.head (g.T.Conversation.asked c.args.talk.now) (g.T.Conversation.asked c.take_option_head.new.talk) (g.T.Conversation.asked c.take_option_data.new.talk)
+    (c.in-Ok.ensures.rule zeros) (ap (λ sink. g.T.Sink.Sink.written sink) c.in-Ok.ensures.same) (c.in-Ok.ensures.asks zeros)
+    c.take_option_data.ensures.asks
