@@ -40,7 +40,8 @@ pub fn receive<T: Conversation>(talk: &mut T, into: &mut [u8]) -> Received
         (T.faults talk.old) (T.faults talk.new) into.new result }
     ensures length { length into.new ≡ length into.old }
     ensures same { T.report talk.new ≡ T.report talk.old }
-    ensures asks { AsksOnly (IsShortAsk (T.left talk.old) (T.Sink.Sink.written (T.report talk.old)) (length into.old))
+    ensures asks { AsksOnly
+        (IsShortAsk (T.left talk.old) (T.Sink.Sink.written (T.report talk.old)) (length into.old))
         (T.asked talk.old) (T.asked talk.new) }
 {
     let mut at = 0;

@@ -187,7 +187,8 @@ pub fn serve_option<T: Conversation>(
         (T.left talk.new) (T.Sink.Sink.written (T.report talk.new)) result }
     ensures counts { (image : ℕ) → TurnCounts (counts_now T.Conversation T.Sink.Sink talk.old image)
         (counts_now T.Conversation T.Sink.Sink talk.new image) result }
-    ensures asks { AsksOnly (IsAskWithin (T.left talk.old) (T.Sink.Sink.written (T.report talk.old)) (Options zeros))
+    ensures asks { AsksOnly
+        (IsAskWithin (T.left talk.old) (T.Sink.Sink.written (T.report talk.old)) (Options zeros))
         (T.asked talk.old) (T.asked talk.new) }
     ensures room { HasMessageRoom rooms.new }
 {

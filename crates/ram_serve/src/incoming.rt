@@ -49,7 +49,8 @@ pub fn take_request<T: Conversation>(
         (RequestCame (T.left talk.old) (T.left talk.new) (T.faults talk.old) (T.faults talk.new) size room.new.items)
         Transmission result }
     ensures same { T.report talk.new ≡ T.report talk.old }
-    ensures asks { AsksOnly (IsAskWithin (T.left talk.old) (T.Sink.Sink.written (T.report talk.old)) Transmission)
+    ensures asks { AsksOnly
+        (IsAskWithin (T.left talk.old) (T.Sink.Sink.written (T.report talk.old)) Transmission)
         (T.asked talk.old) (T.asked talk.new) }
     ensures room { vec_capacity room.old ≤ vec_capacity room.new }
 {
@@ -72,7 +73,8 @@ fn take_header<T: Conversation>(talk: &mut T) -> Result<Header, Status>
     ensures rule { TakeRule (T.left talk.old) (T.left talk.new) (T.faults talk.old) (T.faults talk.new)
         (HeaderCame (T.left talk.old) (T.left talk.new) (T.faults talk.old) (T.faults talk.new)) Transmission result }
     ensures same { T.report talk.new ≡ T.report talk.old }
-    ensures asks { AsksOnly (IsAskWithin (T.left talk.old) (T.Sink.Sink.written (T.report talk.old)) Transmission)
+    ensures asks { AsksOnly
+        (IsAskWithin (T.left talk.old) (T.Sink.Sink.written (T.report talk.old)) Transmission)
         (T.asked talk.old) (T.asked talk.new) }
 {
     let mut bytes = [0; HEADER_BYTES];
@@ -98,7 +100,8 @@ fn take_data<T: Conversation>(
     ensures rule { DataRule (T.left talk.old) (T.left talk.new) (T.faults talk.old) (T.faults talk.new)
         header operation room.new.items result }
     ensures same { T.report talk.new ≡ T.report talk.old }
-    ensures asks { AsksOnly (IsShortAsk (T.left talk.old) (T.Sink.Sink.written (T.report talk.old)) (data_after header))
+    ensures asks { AsksOnly
+        (IsShortAsk (T.left talk.old) (T.Sink.Sink.written (T.report talk.old)) (data_after header))
         (T.asked talk.old) (T.asked talk.new) }
     ensures room { vec_capacity room.old ≤ vec_capacity room.new }
 {
@@ -118,7 +121,8 @@ fn pass_data<T: Conversation>(
     ensures rule { OverRule (T.left talk.old) (T.left talk.new) (T.faults talk.old) (T.faults talk.new)
         (data_after header) result }
     ensures same { T.report talk.new ≡ T.report talk.old }
-    ensures asks { AsksOnly (IsShortAsk (T.left talk.old) (T.Sink.Sink.written (T.report talk.old)) (data_after header))
+    ensures asks { AsksOnly
+        (IsShortAsk (T.left talk.old) (T.Sink.Sink.written (T.report talk.old)) (data_after header))
         (T.asked talk.old) (T.asked talk.new) }
     ensures room { vec_capacity room.old ≤ vec_capacity room.new }
 {

@@ -47,7 +47,8 @@ pub fn receive_first<T: Conversation>(talk: &mut T, into: &mut [u8]) -> Result<(
     ensures rule { FirstRule (T.left talk.old) (T.left talk.new) (T.faults talk.old) (T.faults talk.new) into.new result }
     ensures length { length into.new ≡ length into.old }
     ensures same { T.report talk.new ≡ T.report talk.old }
-    ensures asks { AsksOnly (IsShortAsk (T.left talk.old) (T.Sink.Sink.written (T.report talk.old)) (length into.old))
+    ensures asks { AsksOnly
+        (IsShortAsk (T.left talk.old) (T.Sink.Sink.written (T.report talk.old)) (length into.old))
         (T.asked talk.old) (T.asked talk.new) }
 {
     match receive(talk, into) {
@@ -71,7 +72,8 @@ fn receive_more<T: Conversation>(talk: &mut T, into: &mut [u8]) -> Result<(), St
     ensures rule { MoreRule (T.left talk.old) (T.left talk.new) (T.faults talk.old) (T.faults talk.new) (length into.old) into.new result }
     ensures length { length into.new ≡ length into.old }
     ensures same { T.report talk.new ≡ T.report talk.old }
-    ensures asks { AsksOnly (IsShortAsk (T.left talk.old) (T.Sink.Sink.written (T.report talk.old)) (length into.old))
+    ensures asks { AsksOnly
+        (IsShortAsk (T.left talk.old) (T.Sink.Sink.written (T.report talk.old)) (length into.old))
         (T.asked talk.old) (T.asked talk.new) }
 {
     match receive(talk, into) {

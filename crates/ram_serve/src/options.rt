@@ -69,7 +69,8 @@ pub fn take_option<T: Conversation>(talk: &mut T, room: &mut Vec<u8>) -> Result<
         (OptionCame (T.left talk.old) (T.left talk.new) (T.faults talk.old) (T.faults talk.new) room.new.items)
         (Options zeros) result }
     ensures same { T.report talk.new ≡ T.report talk.old }
-    ensures asks { (zeros : Bool) → AsksOnly (IsAskWithin (T.left talk.old) (T.Sink.Sink.written (T.report talk.old)) (Options zeros))
+    ensures asks { (zeros : Bool)
+        → AsksOnly (IsAskWithin (T.left talk.old) (T.Sink.Sink.written (T.report talk.old)) (Options zeros))
         (T.asked talk.old) (T.asked talk.new) }
     ensures room { vec_capacity room.old ≤ vec_capacity room.new }
 {
@@ -89,7 +90,8 @@ fn take_option_head<T: Conversation>(talk: &mut T) -> Result<OptionHead, Status>
         (OptionHeadCame (T.left talk.old) (T.left talk.new) (T.faults talk.old) (T.faults talk.new))
         (Options zeros) result }
     ensures same { T.report talk.new ≡ T.report talk.old }
-    ensures asks { (zeros : Bool) → AsksOnly (IsAskWithin (T.left talk.old) (T.Sink.Sink.written (T.report talk.old)) (Options zeros))
+    ensures asks { (zeros : Bool)
+        → AsksOnly (IsAskWithin (T.left talk.old) (T.Sink.Sink.written (T.report talk.old)) (Options zeros))
         (T.asked talk.old) (T.asked talk.new) }
 {
     let mut bytes = [0; OPTION_HEAD_BYTES];

@@ -104,7 +104,8 @@ pub fn serve_request<D: Drive, T: Conversation>(
     ensures counts { TurnCounts
         (counts_now T.Conversation T.Sink.Sink talk.old (faults_of D.Caching D.Image.Image inserted.old))
         (counts_now T.Conversation T.Sink.Sink talk.new (faults_of D.Caching D.Image.Image inserted.new)) result }
-    ensures asks { AsksOnly (IsAskWithin (T.left talk.old) (T.Sink.Sink.written (T.report talk.old)) Transmission)
+    ensures asks { AsksOnly
+        (IsAskWithin (T.left talk.old) (T.Sink.Sink.written (T.report talk.old)) Transmission)
         (T.asked talk.old) (T.asked talk.new) }
     ensures room { HasMessageRoom rooms.new }
 {

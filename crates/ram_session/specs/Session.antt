@@ -43,8 +43,8 @@ abbrev pub earlier : List Turned → List ℕ
 earlier [] = []
 earlier (turned ∷ before) = told_in before
 
--- More was asked for when these messages had come: all that was due was told, another message may come, and what had come of it was no
--- whole one. (No answer is kept back, and nothing is awaited of a client that left.)
+-- More was asked for when these messages had come: all that was due was told, another message may come, and what had
+-- come of it was no whole one. (No answer is kept back, and nothing is awaited of a client that left.)
 pub record IsToldBy (first : Beginning) (faults : List Line) (ask : Asked) : Type 0 where
   pub far : SessionSoFar first faults
   pub written_is : ask.written ≡ Some (first.report ++ told_in far.turns)
