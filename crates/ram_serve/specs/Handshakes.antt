@@ -1,5 +1,7 @@
 -- What the handshake makes of a session. For the calls that greet a client and answer its options. (This project's own, as all here.)
-use Rattle.std.specs.Prelude.{◌≡◌, ℕ, Option, Some, Result, Ok, Err, List}
+use Rattle.std.specs.Prelude.{◌≡◌, ℕ, Option, Some, IsSome, Result, Ok, Err, List}
+use Rattle.model_nbd.specs.declared.NextPhase.{NextPhase}
+use Rattle.model_nbd.specs.declared.NextPhase.TheVariants as phases
 use Rattle.model_nbd.specs.Handshake.{Export}
 use Rattle.ram_text.specs.declared.script.Line.{Line}
 use Rattle.ram_machine.specs.declared.status.Status.{Status}
@@ -36,3 +38,8 @@ module _ (first : Beginning) (faults : List Line) (export : Export) (ready : Sta
 -- requests follow
 abbrev pub transmits : Unit {0} → Phase
 transmits done = Transmission
+
+-- After an option requests follow only where there is a disc, of so many bytes.
+abbrev pub HasDiscFor : (size : Option ℕ) → NextPhase → Type 0
+HasDiscFor size phases.Transmission = IsSome size
+HasDiscFor size next = Unit {0}

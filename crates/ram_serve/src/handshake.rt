@@ -1,5 +1,5 @@
 //! The handshake: a client is greeted, sends its flags and then options, each of which is answered before the next one is taken.
-ghost use Rattle.std.specs.Prelude.{◌≡◌, ℕ, ◌+◌, ◌≤◌, List, length};
+ghost use Rattle.std.specs.Prelude.{◌≡◌, ℕ, ◌+◌, ◌≤◌, IfOk, IsSome, List, length};
 ghost use Rattle.model_nbd.specs.Handshake.{Export};
 ghost use Rattle.ram_nbd.specs.Replies.{export_of};
 ghost use Rattle.ram_nbd.specs.declared.handshake.TheConstants.{REASON_LIMIT};
@@ -9,7 +9,7 @@ ghost use Rattle.ram_machine.specs.States.{State};
 ghost use Rattle.ram_script.specs.Progress.{Beginning};
 ghost use Rattle.ram_session.specs.Talk.{Options, phase_after};
 ghost use Rattle.ram_session.specs.Session.{IsToldBy};
-ghost use Rattle.ram_serve.specs.Handshakes.{IsToBeGreeted, InHandshake, HandshakeLeadsTo, transmits};
+ghost use Rattle.ram_serve.specs.Handshakes.{IsToBeGreeted, InHandshake, HandshakeLeadsTo, transmits, HasDiscFor};
 ghost use Rattle.ram_serve.specs.Rooms.{HasMessageRoom};
 ghost use Rattle.ram_serve.specs.Taking.{IsAskWithin, head_answer};
 ghost use Rattle.ram_serve.specs.Turns.{TurnCounts, counts_now};
@@ -29,6 +29,7 @@ use ram_outside::Conversation;
 /// - `turn` (`HandshakeLeadsTo`): from a session that was opened: requests follow, or how it ends.
 /// - `counts` (`TurnCounts`): the count that tells why the session ends rose, and no other.
 /// - `asks` (`IsToldBy`): whenever more was asked for, the greeting was written, and the answer to each message that had come whole.
+/// - `serves`: requests follow only where there is a disc.
 ///
 /// # Answers
 ///
@@ -59,6 +60,7 @@ pub fn shake_hands<T: Conversation>(
         (T.left talk.old) (T.Sink.Sink.written (T.report talk.old))
         → AsksOnly (IsToldBy first faults) (T.asked talk.old) (T.asked talk.new) }
     ensures room { HasMessageRoom rooms.new }
+    ensures serves { IfOk result (λ done. IsSome size) }
 {
     match greet(talk) {
         Ok(zeros) => choose_options(talk, size, reason, zeros, rooms),
@@ -108,6 +110,7 @@ pub fn greet<T: Conversation>(talk: &mut T) -> Result<bool, Status>
 /// - `turn` (`HandshakeLeadsTo`): from what stands between two options: requests follow, or how the session ends.
 /// - `counts` (`TurnCounts`): the count that tells why the session ends rose, and no other.
 /// - `asks` (`IsToldBy`): whenever more was asked for, the answer to each message that had come whole was written.
+/// - `serves`: requests follow only where there is a disc.
 ///
 /// # Answers
 ///
@@ -138,6 +141,7 @@ pub fn choose_options<T: Conversation>(
         (T.left talk.old) (T.Sink.Sink.written (T.report talk.old))
         → AsksOnly (IsToldBy first faults) (T.asked talk.old) (T.asked talk.new) }
     ensures room { HasMessageRoom rooms.new }
+    ensures serves { IfOk result (λ done. IsSome size) }
 {
     let mut answered: u64 = 0;
     while answered < MOST_MESSAGES {
@@ -160,6 +164,7 @@ pub fn choose_options<T: Conversation>(
 /// - `turn` (`HandshakeLeadsTo`): from what stands between two options: the option is answered; or how the session ends.
 /// - `counts` (`TurnCounts`): the count that tells why the session ends rose, and no other.
 /// - `asks` (`IsAskWithin`): whenever more was asked for, the option had not come whole, and what was told before was written.
+/// - `serves` (`HasDiscFor`): requests follow only where there is a disc.
 ///
 /// # Answers
 ///
@@ -191,6 +196,7 @@ pub fn serve_option<T: Conversation>(
         (IsAskWithin (T.left talk.old) (T.Sink.Sink.written (T.report talk.old)) (Options zeros))
         (T.asked talk.old) (T.asked talk.new) }
     ensures room { HasMessageRoom rooms.new }
+    ensures serves { IfOk result (HasDiscFor size) }
 {
     let head = match take_option(talk, &mut rooms.message) {
         Ok(head) => head,
@@ -216,6 +222,7 @@ fn answer_head(
     ensures answer { record { bytes = rooms.new.answer.items; next = result }
         ≡ head_answer (export_of size reason.now) zeros head rooms.old.message.items }
     ensures room { HasMessageRoom rooms.new }
+    ensures serves { HasDiscFor size result }
 {
     rooms.answer.clear();
     if head.length > OPTION_LIMIT {
