@@ -1,11 +1,12 @@
 -- One line of the opening: what the machine does for it.
-use Rattle.std.specs.Prelude.{◌≡◌, ℕ, Result, Ok, Err, List}
-use Rattle.std.proofs.Common.{subst}
+use Rattle.std.specs.Prelude.{◌≡◌, ℕ, Some, Result, Ok, Err, List, []}
+use Rattle.std.proofs.Common.{subst, ◌∙◌}
 use Rattle.model_sectors.specs.declared.PowerOut.{PowerOut}
 use Rattle.model_sectors.specs.declared.PowerOut.TheVariants as powers
 use Rattle.model_sense.specs.declared.answer.Answer.{Answer}
 use Rattle.model_sense.specs.declared.answer.Answer.TheVariants as answers
 use Rattle.ram_report.specs.declared.printing.Event.TheVariants as events
+use Rattle.ram_text.specs.Faults.{IsFaultWord, fault_word}
 use Rattle.ram_text.specs.declared.script.Line.{Line}
 use Rattle.ram_text.specs.declared.script.Line.TheVariants as lines
 use Rattle.ram_machine.specs.declared.reply.Reply.{Reply}
@@ -14,26 +15,42 @@ use Rattle.ram_machine.specs.declared.stopped.Stopped.{Stopped}
 use Rattle.ram_machine.specs.declared.stopped.Stopped.TheVariants as stopped
 use Rattle.ram_machine.specs.Replies.{power_outcome, command_outcome}
 use Rattle.ram_machine.specs.States.{State, Served, Unopened, Disc}
-use Rattle.ram_machine.specs.LineSteps.{Step}
+use Rattle.ram_machine.specs.LineSteps.{CountsUses, Step}
 use Rattle.ram_machine.specs.LineFaults.{LineCount}
 use Rattle.ram_machine.specs.Inserted.{IsAnswered}
 use Rattle.ram_machine.proofs.Answering.{disc_answers}
+use Rattle.ram_text.proofs.Forms.{some_same}
+use Rattle.ram_text.proofs.Faults.{given_word}
 use Rattle.ram_script.specs.Endings.{status_of}
+use Rattle.ram_script.proofs.LinesTaken.{read_uses}
+use Rattle.ram_opening.specs.Faults.{ReadsAsFault}
 use Rattle.ram_session.specs.Opening.{Given, RefusesFault}
-use Rattle.ram_opening.specs.declared.faults.Fault.{Fault}
-use Rattle.ram_opening.specs.declared.faults.Fault.TheVariants as faults
-use Rattle.ram_opening.specs.Faults.{fault_line}
 use Rattle.ram_opening.specs.Opens.{IsOpeningLine, OpeningLineDone, OpeningLineRule}
 
 -- a line, and the data that go with it
 abbrev given_of : Line → List ℕ → Given
 given_of line payload = record { line = line; payload = payload }
 
--- the lines of faults are lines of an opening
-pub opens_fault : (fault : Fault) → IsOpeningLine (fault_line fault)
-opens_fault (faults.Fail block) = tt
-opens_fault (faults.Wear block n) = tt
-opens_fault (faults.Cut n fate) = tt
+-- a word has one reading, which is a line of an opening
+pub one_fault : (word : List ℕ) (line other : Line) → Some line ≡ fault_word word → IsFaultWord word other → line ≡ other
+one_fault word line other read is = some_same line other (read ∙ given_word word other is)
+
+pub opens_fault : (word : List ℕ) (line : Line) → IsFaultWord word line → IsOpeningLine line
+opens_fault word (lines.Fail block) is = tt
+opens_fault word (lines.Wear block n) is = tt
+opens_fault word (lines.Cut n fate) is = tt
+opens_fault word lines.Empty is = absurd is.fault
+opens_fault word (lines.Press zones scale psa) is = absurd is.fault
+opens_fault word lines.Power is = absurd is.fault
+opens_fault word lines.Tick is = absurd is.fault
+opens_fault word (lines.Scrub all) is = absurd is.fault
+opens_fault word (lines.Command cdb) is = absurd is.fault
+
+pub uses_fault : (word : List ℕ) (line : Line) → IsFaultWord word line → CountsUses line
+uses_fault word line is = read_uses word line [] is.reads
+
+pub not_none : (word : List ℕ) → ReadsAsFault word → ((line : Line) → ¬ IsFaultWord word line) → ⊥
+not_none word reads none = none reads.0 reads.1
 
 module _ (s : Served) (payload data_in : List ℕ) (after : State → Type 0) where
   done_to : (line : Line) (reply : Reply) (t : State) → IsOpeningLine line → Step (Disc s) line payload (Ok reply) data_in t → after t

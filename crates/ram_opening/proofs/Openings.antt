@@ -1,8 +1,10 @@
 -- The lines of the opening, one after another.
-use Rattle.std.specs.Prelude.{◌≡◌, ℕ, ◌+◌, ◌<◌, ◌≤◌, true, false, Option, Some, None, Ok, Err, List, [], ◌∷◌, length, map, replicate}
-use Rattle.std.proofs.Common.{refl, sym, ap, ◌∙◌, subst, append_assoc, append-nil, drop, drop_of_length-le, get_or}
+use Rattle.std.specs.Prelude.{◌≡◌, ℕ, zero, suc, ◌+◌, ◌<◌, ◌≤◌, true, false, Option, Some, None, Ok, Err, List, [], ◌∷◌, length, map, replicate}
+use Rattle.std.specs.Borrow.{Bor}
+use Rattle.std.proofs.Common.{arith, refl, sym, ap, ◌∙◌, subst, append_assoc, append-nil, drop, drop_of_length-le, get_or}
 use Rattle.std.proofs.lemmas.List.{drop_more}
 use Rattle.model_nbd.specs.Handshake.{Export as Told}
+use Rattle.ram_text.specs.Faults.{IsFaultWord, AreFaultWords}
 use Rattle.ram_text.specs.declared.script.Line.{Line}
 use Rattle.ram_text.specs.declared.script.Line.TheVariants as lines
 use Rattle.ram_machine.specs.declared.reply.Reply.{Reply}
@@ -14,10 +16,9 @@ use Rattle.ram_machine.specs.LineSteps.{Step}
 use Rattle.ram_script.specs.Progress.{Beginning}
 use Rattle.ram_session.specs.Opening.{Given, without_data, cache_on_cdb, cache_on_page, opening_lines, lines_done, RefusesFault, served_after, export_after, IsOpenedInPart}
 use Rattle.ram_session.specs.Session.{EndsAtFault}
-use Rattle.ram_opening.specs.declared.faults.Fault.{Fault}
 use Rattle.ram_opening.specs.declared.opening.Export.{Export}
 use Rattle.ram_opening.specs.declared.opening.Export.TheVariants as exports
-use Rattle.ram_opening.specs.Faults.{fault_line}
+use Rattle.ram_opening.specs.Faults.{ReadsAsFault, ReadAsFaults}
 use Rattle.ram_opening.specs.Exports.{export_size, told_export}
 use Rattle.ram_opening.specs.Opens.{is_disc, OpeningLineDone, OpeningLineRule, IsNothingYet, IsServedSo, OpenedTo, OpensOn, LiesWhereServed, IsOpenedAs, OpenRule}
 
@@ -206,17 +207,40 @@ command_as first faults sofar stands cdb same payload sent rest is also far =
     subst (λ (xs : List ℕ). OpenedTo first faults sofar stands (record { line = lines.Command cdb; payload = xs } ∷ rest)) (sym also)
     (subst (λ (xs : List ℕ). OpenedTo first faults sofar stands (record { line = lines.Command xs; payload = sent } ∷ rest)) (sym is) far)
 
--- the faults that are left
-abbrev pub given_faults : List Fault → List Given
-given_faults faults = map without_data (map fault_line faults)
-
 -- the lines behind the power
-abbrev pub after_power : List Fault → List Given
-after_power faults = without_data (lines.Command (replicate 6 0)) ∷ record { line = lines.Command cache_on_cdb; payload = cache_on_page } ∷ given_faults faults
+abbrev pub after_power : List Line → List Given
+after_power faults = without_data (lines.Command (replicate 6 0)) ∷ record { line = lines.Command cache_on_cdb; payload = cache_on_page } ∷ map without_data faults
 
-pub faults_more : (faults : List Fault) (n : ℕ) (d : Fault) → n < length faults
-    → given_faults (drop n faults) ≡ without_data (fault_line (get_or faults n d)) ∷ given_faults (drop (n + 1) faults)
-faults_more faults n d more = ap given_faults (drop_more faults n d more)
+-- the fault of a word, which is the first of those that are left
+abbrev text_of : Bor (List ℕ) → List ℕ
+text_of word = word.now
 
-pub faults_end : (faults : List Fault) (n : ℕ) → length faults ≤ n → given_faults (drop n faults) ≡ []
-faults_end faults n all = ap given_faults (drop_of_length-le faults all)
+as_many : (words : List (Bor (List ℕ))) (faults : List Line) → AreFaultWords (map text_of words) faults → length faults ≡ length words
+as_many [] faults are = ap length are
+as_many (word ∷ words) [] are = absurd are
+as_many (word ∷ words) (fault ∷ faults) are = ap suc (as_many words faults are.1)
+
+fault_there : (words : List (Bor (List ℕ))) (faults : List Line) (n : ℕ) (d : Bor (List ℕ)) (e : Line) → AreFaultWords (map text_of words) faults
+    → n < length words → IsFaultWord (get_or words n d).now (get_or faults n e)
+fault_there [] faults n d e are more = absurd (omega (arith, more))
+fault_there (word ∷ words) [] n d e are more = absurd are
+fault_there (word ∷ words) (fault ∷ faults) zero d e are more = are.0
+fault_there (word ∷ words) (fault ∷ faults) (suc n) d e are more = fault_there words faults n d e are.1 (omega (arith, more))
+
+pub reads_there : (words : List (Bor (List ℕ))) (n : ℕ) (d : Bor (List ℕ)) → n < length words → ReadAsFaults (map text_of words)
+    → ReadsAsFault (get_or words n d).now
+reads_there words n d more (faults, are) = (get_or faults n lines.Power, fault_there words faults n d lines.Power are more)
+
+abbrev pub fault_at : List Line → ℕ → Line
+fault_at faults n = get_or faults n lines.Power
+
+module _ (words : List (Bor (List ℕ))) (faults : List Line) (are : AreFaultWords (map text_of words) faults) (n : ℕ) where
+  module _ (more : n < length words) where
+    pub is_fault_at : (d : Bor (List ℕ)) → IsFaultWord (get_or words n d).now (fault_at faults n)
+    is_fault_at d = fault_there words faults n d lines.Power are more
+
+    pub faults_more : map without_data (drop n faults) ≡ without_data (fault_at faults n) ∷ map without_data (drop (n + 1) faults)
+    faults_more = ap (λ (left : List Line). map without_data left) (drop_more faults n lines.Power (subst (λ (k : ℕ). n < k) (sym (as_many words faults are)) more))
+
+  pub faults_end : length words ≤ n → map without_data (drop n faults) ≡ []
+  faults_end all = ap (λ (left : List Line). map without_data left) (drop_of_length-le faults (subst (λ (k : ℕ). k ≤ n) (sym (as_many words faults are)) all))

@@ -2,10 +2,9 @@
 //! and then come the faults that the words ask for.
 //!
 //! What to read: `specs/Opens.antt` (what opening a session may do, by its answer), `specs/Exports.antt` (what is served then) and
-//! `specs/Faults.antt` (the line of a fault). The lines themselves are said in `ram_session`, what a line does in `ram_machine`.
+//! `specs/Faults.antt` (words that read as faults). The lines themselves are said in `ram_session`, what a line does in `ram_machine`.
 #![tactic(auto)]
 
-pub mod faults;
 mod opening;
 
 pub use opening::{Export, open_session};

@@ -1,9 +1,9 @@
 //! What is done before a client is greeted, and what it is served then.
 ghost use Rattle.std.specs.Prelude.{◌≡◌, ◌≤◌, IfOk, MatchBool, List, [], ◌∷◌, length, map, replicate, vec_capacity};
-ghost use Rattle.std.specs.List.{All};
 ghost use Rattle.model_nbd.specs.Handshake.{Export as Told};
 ghost use Rattle.ram_nbd.specs.Replies.{export_of};
 ghost use Rattle.ram_nbd.specs.declared.handshake.TheConstants.{REASON_LIMIT};
+ghost use Rattle.ram_text.specs.Faults.{IsFaultWord, AreFaultWords};
 ghost use Rattle.ram_text.specs.declared.payload.TheConstants.{PAYLOAD_ROOM};
 ghost use Rattle.ram_text.specs.declared.script.Line.{Line as Asked};
 ghost use Rattle.ram_text.specs.declared.script.Line.TheVariants as lines;
@@ -12,17 +12,16 @@ ghost use Rattle.ram_machine.specs.States.{State, Served, Disc, kind_of, IsFirst
 ghost use Rattle.ram_machine.specs.Inserted.{Stands, faults_of};
 ghost use Rattle.ram_script.specs.Progress.{Beginning};
 ghost use Rattle.ram_session.specs.Opening.{Given, without_data, cache_on_cdb, cache_on_page, RefusesFault, served_after};
-ghost use Rattle.ram_opening.specs.Faults.{fault_line};
+ghost use Rattle.ram_opening.specs.Faults.{ReadsAsFault, ReadAsFaults};
 ghost use Rattle.ram_opening.specs.Exports.{export_size, export_reason, told_export, FitsSectors};
 ghost use Rattle.ram_opening.specs.Opens.{is_disc, IsOpeningLine, OpeningCount, OpeningLineRule, OpenedTo, IsNothingYet, IsServedSo, OpensOn, OpenRule};
 
-use crate::faults::Fault;
 use ram_bytes::Cdb;
 use ram_machine::status::Status;
 use ram_machine::{Drive, Inserted, Reply};
 use ram_report::Event;
 use ram_script::status_of;
-use ram_text::Line;
+use ram_text::{Line, parse_fault};
 
 /// What a client is served.
 #[derive(Clone, Copy, Debug, PartialEq, Eq)]
@@ -72,12 +71,13 @@ impl Export {
 }
 
 /// Does what is done before a client is greeted: over an image that holds no disc nothing; over a disc the power comes on, the attention
-/// is taken, the write cache is turned on, and these faults are made, in their order. What `data_in` holds does not matter.
+/// is taken, the write cache is turned on, and the faults that these words read as are made, in their order. What `data_in` holds does not
+/// matter.
 ///
 /// # Clauses
 ///
-/// - `rule` (`OpenRule`): from each state that a session may begin in: all lines of the opening were done, and what is served then; or
-///   how the session ends.
+/// - `rule` (`OpenRule`): of the faults that the words read as, from each state that a session may begin in: all lines of the opening were
+///   done, and what is served then; or how the session ends.
 /// - `small` (`FitsSectors`): a disc that is served has fewer than 2^32 sectors.
 /// - `count` (`OpeningCount`): the image's count rose exactly where the image failed.
 /// - `room`: the room stays.
@@ -93,14 +93,15 @@ impl Export {
 /// - `Done`, `Differs`, `Usage`, `SourceFault`, `SinkFault`, `NoMemory`, `NotADisc`: never. (`OpenRule`)
 pub fn open_session<D: Drive>(
     inserted: &mut Inserted<D>,
-    faults: &[Fault],
+    words: &[&str],
     data_in: &mut Vec<u8>,
 ) -> Result<Export, Status>
-    requires uses { All (λ fault. CountsUses (fault_line fault)) faults.now }
+    requires reads { ReadAsFaults (map (λ word. word.now) words.now) }
     requires room { PAYLOAD_ROOM ≤ vec_capacity data_in.old }
-    ensures rule { (first : Beginning) (start : State) → IsFirst first.image start → kind_of start ≡ first.kind
+    ensures rule { (first : Beginning) (faults : List Asked) → AreFaultWords (map (λ word. word.now) words.now) faults
+        → (start : State) → IsFirst first.image start → kind_of start ≡ first.kind
         → Stands D.Caching D.lies_in D.Image.Image inserted.old start
-        → OpenRule first (map fault_line faults.now) (Stands D.Caching D.lies_in D.Image.Image inserted.new) result }
+        → OpenRule first faults (Stands D.Caching D.lies_in D.Image.Image inserted.new) result }
     ensures small { IfOk result FitsSectors }
     ensures count { OpeningCount (faults_of D.Caching D.Image.Image inserted.old)
         (faults_of D.Caching D.Image.Image inserted.new) result }
@@ -117,7 +118,7 @@ pub fn open_session<D: Drive>(
         Ok(()) => {}
         Err(status) => return Err(status),
     }
-    match make_faults(inserted, faults, data_in) {
+    match make_faults(inserted, words, data_in) {
         Ok(()) => Ok(export),
         Err(status) => Err(status),
     }
@@ -219,24 +220,25 @@ fn do_command<D: Drive>(
     }
 }
 
-/// Makes these faults, up to the first that is refused.
+/// Makes the faults that these words read as, up to the first that is refused.
 fn make_faults<D: Drive>(
     inserted: &mut Inserted<D>,
-    faults: &[Fault],
+    words: &[&str],
     data_in: &mut Vec<u8>,
 ) -> Result<(), Status>
-    requires uses { All (λ fault. CountsUses (fault_line fault)) faults.now }
+    requires reads { ReadAsFaults (map (λ word. word.now) words.now) }
     requires room { PAYLOAD_ROOM ≤ vec_capacity data_in.old }
-    ensures rule { (first : Beginning) (asked : List Asked) (export : Told)
-        → OpenedTo first asked (IsServedSo export) (Stands D.Caching D.lies_in D.Image.Image inserted.old)
-        (map without_data (map fault_line faults.now))
-        → OpensOn first asked (λ done. export) (Stands D.Caching D.lies_in D.Image.Image inserted.new) [] result }
+    ensures rule { (first : Beginning) (faults : List Asked) → AreFaultWords (map (λ word. word.now) words.now) faults
+        → (export : Told)
+        → OpenedTo first faults (IsServedSo export) (Stands D.Caching D.lies_in D.Image.Image inserted.old)
+        (map without_data faults)
+        → OpensOn first faults (λ done. export) (Stands D.Caching D.lies_in D.Image.Image inserted.new) [] result }
     ensures count { OpeningCount (faults_of D.Caching D.Image.Image inserted.old)
         (faults_of D.Caching D.Image.Image inserted.new) result }
     ensures room { vec_capacity data_in.old ≤ vec_capacity data_in.new }
 {
-    for fault in faults {
-        match make_fault(inserted, *fault, data_in) {
+    for word in words {
+        match make_fault(inserted, word, data_in) {
             Ok(()) => {}
             Err(status) => return Err(status),
         }
@@ -244,23 +246,24 @@ fn make_faults<D: Drive>(
     Ok(())
 }
 
-/// Makes a fault.
+/// Makes the fault that this word reads as.
 fn make_fault<D: Drive>(
     inserted: &mut Inserted<D>,
-    fault: Fault,
+    word: &str,
     data_in: &mut Vec<u8>,
 ) -> Result<(), Status>
-    requires uses { CountsUses (fault_line fault) }
+    requires reads { ReadsAsFault word.now }
     requires room { PAYLOAD_ROOM ≤ vec_capacity data_in.old }
-    ensures rule { (first : Beginning) (faults : List Asked) (export : Told) (rest : List Given)
+    ensures rule { (first : Beginning) (faults : List Asked) (export : Told) (fault : Asked) (rest : List Given)
+        → IsFaultWord word.now fault
         → OpenedTo first faults (IsServedSo export) (Stands D.Caching D.lies_in D.Image.Image inserted.old)
-        (without_data (fault_line fault) ∷ rest)
+        (without_data fault ∷ rest)
         → OpensOn first faults (λ done. export) (Stands D.Caching D.lies_in D.Image.Image inserted.new) rest result }
     ensures count { OpeningCount (faults_of D.Caching D.Image.Image inserted.old)
         (faults_of D.Caching D.Image.Image inserted.new) result }
     ensures room { vec_capacity data_in.old ≤ vec_capacity data_in.new }
 {
-    match do_line(inserted, fault.line(), &[], data_in) {
+    match do_line(inserted, line_of(word), &[], data_in) {
         Ok(reply) => {
             if refuses_fault(&reply) {
                 Err(Status::Script)
@@ -269,6 +272,19 @@ fn make_fault<D: Drive>(
             }
         }
         Err(status) => Err(status),
+    }
+}
+
+/// The line of a word that reads as a fault.
+fn line_of(word: &str) -> Line
+    requires reads { ReadsAsFault word.now }
+    ensures only { (line : Asked) → IsFaultWord word.now line → result ≡ line }
+    ensures opens { IsOpeningLine result }
+    ensures uses { CountsUses result }
+{
+    match parse_fault(word.as_bytes()) {
+        Some(line) => line,
+        None => unreachable!(),
     }
 }
 
