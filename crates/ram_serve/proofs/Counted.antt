@@ -67,7 +67,7 @@ module _ (a b c : Counts) (one : SameCounts a b) where
   }
   turn_then (Err statuses.Done) two = same_then two
   turn_then (Err statuses.Script) two = same_then two
-  turn_then (Err statuses.Differs) two = same_then two
-  turn_then (Err statuses.Usage) two = same_then two
-  turn_then (Err statuses.NoMemory) two = same_then two
+  turn_then (Err statuses.Differs) two = absurd two
+  turn_then (Err statuses.Usage) two = absurd two
+  turn_then (Err statuses.NoMemory) two = absurd two
   turn_then (Err statuses.NotADisc) two = same_then two

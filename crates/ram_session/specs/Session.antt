@@ -167,9 +167,13 @@ SessionStands first faults after statuses.Script = EndsRefused first faults afte
 SessionStands first faults after statuses.ImageFault = EndsFailed first faults after ⊎ EndsGreeted first faults after statuses.ImageFault
 SessionStands first faults after status = EndsGreeted first faults after status
 
--- The count that a status tells of rose, and no other; with every other status nothing failed at all.
+-- The count that a status tells of rose, and no other; with every other status nothing failed at all. Some are no status of a session,
+-- whatever is known.
 abbrev pub SessionCounts : (before after : Counts) → Status → Type 0
 SessionCounts before after statuses.ImageFault = OnlyImageRose before after
 SessionCounts before after statuses.SourceFault = OnlySourceRose before after
 SessionCounts before after statuses.SinkFault = OnlySinkRose before after
+SessionCounts before after statuses.Differs = ⊥
+SessionCounts before after statuses.Usage = ⊥
+SessionCounts before after statuses.NoMemory = ⊥
 SessionCounts before after _ = SameCounts before after
