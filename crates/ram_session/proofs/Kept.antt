@@ -21,10 +21,10 @@ use Rattle.ram_session.specs.Kept.{LeavesAsked, LeavesByMessage, LeaveByMessages
 use Rattle.ram_session.proofs.Decoded.{write_decoded, read_decoded}
 
 -- a command leaves the sector as it is
-abbrev LeavesBy : (at : ℕ) → Command → Type 0
+abbrev pub LeavesBy : (at : ℕ) → Command → Type 0
 LeavesBy at command = LeavesAsDecoded at (decoded command.cdb command.payload)
 
-abbrev AllBy : (at : ℕ) → List Command → Type 0
+abbrev pub AllBy : (at : ℕ) → List Command → Type 0
 AllBy at [] = Unit {0}
 AllBy at (command ∷ rest) = LeavesBy at command × AllBy at rest
 
@@ -33,7 +33,7 @@ all_front : (at : ℕ) (front rest : List Command) → AllBy at (front ++ rest) 
 all_front at [] rest all = tt
 all_front at (command ∷ front) rest all = (all.0, all_front at front rest all.1)
 
-all_last : (at : ℕ) (front : List Command) (last : Command) → AllBy at (front ++ last ∷ []) → AllBy at front × LeavesBy at last
+pub all_last : (at : ℕ) (front : List Command) (last : Command) → AllBy at (front ++ last ∷ []) → AllBy at front × LeavesBy at last
 all_last at [] last all = (tt, all.0)
 all_last at (command ∷ front) last all = let rest = all_last at front last all.1 in ((all.0, rest.0), rest.1)
 
@@ -85,16 +85,16 @@ reads_leave (suc k) at lba n small least most = (
 )
 
 -- the data of a part of a write
-part_long : (bytes : List ℕ) (lba n : ℕ) → length bytes ≡ 2048 * n → (part : Sectors) → lba ≤ part.lba → part.lba + part.n ≤ lba + n
+pub part_long : (bytes : List ℕ) (lba n : ℕ) → length bytes ≡ 2048 * n → (part : Sectors) → lba ≤ part.lba → part.lba + part.n ≤ lba + n
     → length (take (2048 * part.n) (drop (2048 * (part.lba - lba)) bytes)) ≡ 2048 * part.n
 part_long bytes lba n long part low high =
     length-take-le (2048 * part.n) (drop (2048 * (part.lba - lba)) bytes)
     (omega (arith, long, low, high, length-drop (2048 * (part.lba - lba)) bytes))
 
-data_of_write : (header : Header) → header.kind ≡ 1 → data_after header ≡ header.len
+pub data_of_write : (header : Header) → header.kind ≡ 1 → data_after header ≡ header.len
 data_of_write header is = rw is refl
 
-length_zeroes : (n : ℕ) → length (zeroes_for n) ≡ n
+pub length_zeroes : (n : ℕ) → length (zeroes_for n) ≡ n
 unfolding zeroes_for
 length_zeroes n = length-replicate n 0
 
@@ -118,7 +118,7 @@ commands_leave size at header bytes operations.Flush small long is leaves = (tt,
 commands_leave size at header bytes operations.Disconnect small long is leaves = (tt, tt)
 
 -- one message
-message_leaves : (size at : ℕ) (was : Phase) (message : Message) (dids : List Did) (told : List ℕ) (next : Phase) → size < 2048 * 2 ^ 32
+pub message_leaves : (size at : ℕ) (was : Phase) (message : Message) (dids : List Did) (told : List ℕ) (next : Phase) → size < 2048 * 2 ^ 32
     → FollowsBy was message (Serving size) dids told next → LeavesByMessage size at message → AllBy at (commands_in dids)
 message_leaves size at Greeted (Flags zeros) dids told next small f leaves = subst (λ (ds : List Did). AllBy at (commands_in ds)) (sym f.nothing_done) tt
 message_leaves size at (Options zeros) (Wants option) dids told next small f leaves = subst (λ (ds : List Did). AllBy at (commands_in ds)) (sym f.nothing_done) tt

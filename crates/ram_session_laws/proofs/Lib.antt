@@ -1,0 +1,5 @@
+pub mod Registers
+pub mod Rows
+pub mod Told
+pub mod Chains
+pub mod Kept

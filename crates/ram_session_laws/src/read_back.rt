@@ -1,0 +1,22 @@
+//! The laws of what a client reads back.
+ghost use Rattle.std.specs.Prelude.{◌≡◌, ℕ, ◌*◌, ◌^◌, ◌<◌, Option, List, ◌∷◌, ◌++◌};
+ghost use Rattle.model_nbd.specs.Handshake.{Serving};
+ghost use Rattle.ram_text.specs.declared.script.Line.{Line};
+ghost use Rattle.ram_session.specs.Talk.{Turned};
+ghost use Rattle.ram_session.specs.Opening.{export_after};
+ghost use Rattle.ram_session.specs.Kept.{LeaveByMessages};
+ghost use Rattle.ram_session.specs.Promise.{KeepsSession};
+ghost use Rattle.ram_session_laws.specs.ReadBack.{WroteSector, ReadSector};
+
+/// A sector that a client wrote is read back. A message wrote it, and was told without an error; messages follow that do not write it,
+/// however they were told; then a message reads it, and is told without an error. Then its data have in that sector the bytes that were
+/// sent.
+pub fn a_written_sector_is_read_back()
+    ensures { (faults : List Line) (sent report image : List ℕ) (written : Option (List ℕ))
+        (keeps : KeepsSession faults sent report image written) (size at : ℕ) (wrote read : Turned)
+        (before between after : List Turned) (bytes found : List ℕ)
+        → export_after keeps.opening ≡ Serving size → size < 2048 * 2 ^ 32
+        → keeps.turns ≡ after ++ (read ∷ (between ++ (wrote ∷ before)))
+        → WroteSector size at wrote bytes → LeaveByMessages size at between → ReadSector size at read found
+        → found ≡ bytes }
+{}
