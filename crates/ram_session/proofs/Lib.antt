@@ -4,3 +4,4 @@ pub mod ReadData
 pub mod Kept
 mod OneReading
 pub mod Promised
+pub mod AllAnswered

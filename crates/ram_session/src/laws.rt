@@ -1,5 +1,5 @@
 //! The laws of sessions, each the contract of a function with an empty body.
-ghost use Rattle.std.specs.Prelude.{◌≡◌, ℕ, ◌<◌, ◌≤◌, ◌*◌, ◌^◌, Bool, Ok, List, [], ◌++◌, length, map};
+ghost use Rattle.std.specs.Prelude.{◌≡◌, ℕ, ◌<◌, ◌≤◌, ◌*◌, ◌^◌, Bool, Ok, Some, List, [], ◌++◌, length, map};
 ghost use Rattle.model_cdb.specs.Decoding.{decoded};
 ghost use Rattle.model_cdb.specs.declared.commands.Command.TheVariants as commands;
 ghost use Rattle.model_nbd.specs.Commands.{Sectors, read_cdb, write_cdb, sync_cdb};
@@ -7,6 +7,7 @@ ghost use Rattle.model_nbd.specs.Handshake.{Export, Serving};
 ghost use Rattle.model_sense.specs.declared.answer.Answer.TheVariants as answers;
 ghost use Rattle.ram_text.specs.declared.script.Line.{Line};
 ghost use Rattle.ram_text.specs.declared.script.Line.TheVariants as lines;
+ghost use Rattle.ram_outside.specs.Conversation.{Asked};
 ghost use Rattle.ram_machine.specs.declared.reply.Reply.TheVariants as replies;
 ghost use Rattle.ram_machine.specs.LineSteps.{Step};
 ghost use Rattle.ram_machine.specs.States.{State};
@@ -16,10 +17,11 @@ ghost use Rattle.ram_machine.specs.declared.status.Status.{Status};
 ghost use Rattle.ram_script.specs.Endings.{Aftermath};
 ghost use Rattle.ram_script.specs.Progress.{Beginning};
 ghost use Rattle.ram_session.specs.Doing.{Doing, step_of};
-ghost use Rattle.ram_session.specs.Talk.{Phase, Turned, Talk, dids_in, sent_in};
+ghost use Rattle.ram_session.specs.Talk.{Phase, Message, message_bytes, MayCome, Turned, Talk, dids_in, sent_in};
+ghost use Rattle.ram_session.specs.Opening.{export_after};
 ghost use Rattle.ram_session.specs.Kept.{LeaveByMessages};
 ghost use Rattle.ram_session.specs.Promise.{KeepsSession};
-ghost use Rattle.ram_session.specs.Session.{SessionSoFar, SessionStands};
+ghost use Rattle.ram_session.specs.Session.{SessionSoFar, IsToldBy, SessionStands};
 
 /// What the messages of a client do is a run of the machine that answers a script; and so is a whole session, with the lines before the
 /// greeting.
@@ -91,4 +93,17 @@ pub fn a_session_has_one_reading()
         → sent_in turns ++ rest ≡ sent_in others ++ left
         → (map (λ (turned : Turned). turned.message) turns ≡ map (λ (turned : Turned). turned.message) others)
         × (phase ≡ other) × (rest ≡ left) }
+{}
+
+/// Whenever more is asked for, each message of the client that has come whole is answered.
+///
+/// # Clauses
+///
+/// - a talk that is read from what the client sends, and whose next message has come whole, has fewer messages than were answered.
+pub fn no_answer_is_kept_back()
+    ensures { (first : Beginning) (faults : List Line) (ask : Asked) (told : IsToldBy first faults ask) (s t : State)
+        (turns : List Turned) (phase : Phase) (message : Message) (more left : List ℕ)
+        → Talk (export_after told.far.opened.steps) s turns t phase → MayCome phase message
+        → first.script ≡ sent_in turns ++ ((message_bytes message ++ more) ++ left) → ask.left ≡ Some left
+        → length turns < length told.far.turns }
 {}
