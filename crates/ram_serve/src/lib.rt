@@ -1,5 +1,5 @@
 //! A client of the NBD protocol is served the disc in an image: the rooms of a session, messages that come and go, the handshake, and
-//! requests; each message is answered before the next one is taken. The whole session is to come.
+//! requests; each message is answered before the next one is taken. The whole session is that of `ram_client`.
 //!
 //! What to read: `specs/Turns.antt` (what requests make of a session), `specs/Handshakes.antt` (what the handshake makes of it),
 //! `specs/Taking.antt` (what taking a message may do), `specs/Messages.antt` (what receiving and telling may do, by their answers),

@@ -1,0 +1,3 @@
+mod Conversing
+mod Closing
+pub mod Statuses
