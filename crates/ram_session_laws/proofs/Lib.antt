@@ -3,3 +3,4 @@ pub mod Rows
 pub mod Told
 pub mod Chains
 pub mod Kept
+pub mod Served
