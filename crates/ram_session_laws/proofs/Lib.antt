@@ -4,3 +4,5 @@ pub mod Told
 pub mod Chains
 pub mod Kept
 pub mod Served
+pub mod Flushed
+pub mod Power

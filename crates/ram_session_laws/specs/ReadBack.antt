@@ -37,3 +37,9 @@ pub record ReadSector (size at : ℕ) (turned : Turned) (bytes : List ℕ) : Typ
   pub asks : request_asks size request.header ≡ operations.Read lba n
   pub among : IsAmong lba n at
   pub bytes_are : bytes ≡ bytes_of_sector lba data_told at
+
+-- The message asked for all that was written to last, and was told without an error.
+pub record WasFlushed (size : ℕ) (turned : Turned) : Type 0 where
+  pub request : Request
+  pub told : WasToldGood turned request []
+  pub asks : request_asks size request.header ≡ operations.Flush

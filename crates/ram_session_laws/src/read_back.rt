@@ -1,12 +1,14 @@
 //! The laws of what a client reads back.
-ghost use Rattle.std.specs.Prelude.{◌≡◌, ℕ, ◌*◌, ◌^◌, ◌<◌, Option, List, ◌∷◌, ◌++◌};
+ghost use Rattle.std.specs.Prelude.{◌≡◌, ℕ, ◌*◌, ◌^◌, ◌<◌, Option, Some, List, ◌∷◌, ◌++◌, map};
 ghost use Rattle.model_nbd.specs.Handshake.{Serving};
 ghost use Rattle.ram_text.specs.declared.script.Line.{Line};
-ghost use Rattle.ram_session.specs.Talk.{Turned};
+ghost use Rattle.ram_machine.specs.Register.{Register, Bytes, synchronised, HasSettled, Turns};
+ghost use Rattle.ram_session.specs.Doing.{step_of};
+ghost use Rattle.ram_session.specs.Talk.{Phase, Turned, TurnFollows};
 ghost use Rattle.ram_session.specs.Opening.{export_after};
 ghost use Rattle.ram_session.specs.Kept.{LeaveByMessages};
 ghost use Rattle.ram_session.specs.Promise.{KeepsSession};
-ghost use Rattle.ram_session_laws.specs.ReadBack.{WroteSector, ReadSector};
+ghost use Rattle.ram_session_laws.specs.ReadBack.{WroteSector, ReadSector, WasFlushed};
 
 /// A sector that a client wrote is read back. A message wrote it, and was told without an error; messages follow that do not write it,
 /// however they were told; then a message reads it, and is told without an error. Then its data have in that sector the bytes that were
@@ -19,4 +21,19 @@ pub fn a_written_sector_is_read_back()
         → keeps.turns ≡ after ++ (read ∷ (between ++ (wrote ∷ before)))
         → WroteSector size at wrote bytes → LeaveByMessages size at between → ReadSector size at read found
         → found ≡ bytes }
+{}
+
+/// After a FLUSH that was told without an error what a sector has lasts.
+///
+/// # Clauses
+///
+/// - `registers`: its register has what it has now alone, whatever the power does.
+/// - `settles`: so the bytes that it has now are settled.
+pub fn a_flush_makes_values_last()
+    ensures registers { (size at : ℕ) (was next : Phase) (turned : Turned) (r after : Register)
+        → TurnFollows (Serving size) was turned next → WasFlushed size turned → Turns at r (map step_of turned.dids) after
+        → after ≡ synchronised r.now r }
+    ensures settles { (size at : ℕ) (was next : Phase) (turned : Turned) (r after : Register) (bytes : List ℕ)
+        → TurnFollows (Serving size) was turned next → WasFlushed size turned → Turns at r (map step_of turned.dids) after
+        → after.now ≡ Some (Bytes bytes) → HasSettled after bytes }
 {}
