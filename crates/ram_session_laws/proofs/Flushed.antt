@@ -1,12 +1,9 @@
 -- What a synchronisation makes of the register of a sector, and so what a flush does that was told without an error.
-use Rattle.std.specs.Prelude.{◌≡◌, ℕ, ◌+◌, Option, None, Some, Result, List, [], ◌∷◌, ◌++◌, length, map}
-use Rattle.std.specs.List.{Contains}
+use Rattle.std.specs.Prelude.{◌≡◌, ℕ, Option, None, Some, List, [], ◌∷◌, ◌++◌, length, map}
 use Rattle.std.proofs.Common.{refl, sym, ap, ◌∙◌, inl, inr, subst, arith, length-append}
 use Rattle.model_cache.proofs.Members.{Contains-cases, Contains-none}
-use Rattle.model_sense.specs.declared.sense.Sense.{Sense}
 use Rattle.model_sense.specs.declared.answer.Answer.{Answer}
 use Rattle.model_sense.specs.declared.answer.Answer.TheVariants as answers
-use Rattle.model_cdb.specs.declared.commands.Command.{Command as Asked}
 use Rattle.model_cdb.specs.Decoding.{decoded}
 use Rattle.model_nbd.specs.declared.NbdOperation.{NbdOperation}
 use Rattle.model_nbd.specs.declared.NbdOperation.TheVariants as operations
@@ -14,8 +11,8 @@ use Rattle.model_nbd.specs.Messages.{Request, reply_bytes}
 use Rattle.model_nbd.specs.Handshake.{Serving}
 use Rattle.model_nbd.specs.Operations.{request_asks}
 use Rattle.model_nbd.specs.Commands.{Command, bare, sync_cdb, commands_of}
-use Rattle.ram_machine.specs.Register.{Value, Bytes, Register, settled, synchronised, AfterCommand, Turns, HasSettled}
-use Rattle.ram_session.specs.Doing.{Did, WereAllGood, WereGood, commands_in, step_of, reply_to}
+use Rattle.ram_machine.specs.Register.{Value, Bytes, Register, synchronised, AfterCommand, Turns, HasSettled}
+use Rattle.ram_session.specs.Doing.{Did, WereAllGood, commands_in, step_of, reply_to}
 use Rattle.ram_session.specs.Talk.{Phase, Turned, TurnFollows}
 use Rattle.ram_session_laws.specs.ReadBack.{WasFlushed}
 use Rattle.ram_session_laws.proofs.Told.{all_good, told_no_error, asked_in}
@@ -36,8 +33,12 @@ pub one_did : (command : Command) (dids : List Did) → WereAllGood (command ∷
 one_did command [] all = absurd (omega (arith, ap length all.all_done))
 one_did command (did ∷ []) all = record { did = did; dids_are = refl; command_is = ap (first_of command) (sym all.all_done); good = all.good.0 }
 one_did command (did ∷ (other ∷ before)) all =
-    absurd (omega (arith, ap length all.all_done, length-append (commands_in before ++ other.command ∷ []) (did.command ∷ []),
-        length-append (commands_in before) (other.command ∷ [])))
+    absurd (omega (
+      arith,
+      ap length all.all_done,
+      length-append (commands_in before ++ other.command ∷ []) (did.command ∷ []),
+      length-append (commands_in before) (other.command ∷ []),
+    ))
 
 -- a synchronisation that was good
 pub synchronises : (at : ℕ) (r after : Register) (dids : List Did) → WereAllGood (bare sync_cdb ∷ []) dids → Turns at r (map step_of dids) after → after ≡ synchronised r.now r
@@ -67,7 +68,7 @@ message_flushed size at was next turned r after follows flushed turns =
     synchronises at r after turned.dids (flush_good size was next turned follows flushed) turns
 
 -- what it has now is settled then
-settled_then : (now : Option Value) (r : Register) (bytes : List ℕ) → r.now ≡ now → (synchronised now r).now ≡ Some (Bytes bytes) → HasSettled (synchronised now r) bytes
+pub settled_then : (now : Option Value) (r : Register) (bytes : List ℕ) → r.now ≡ now → (synchronised now r).now ≡ Some (Bytes bytes) → HasSettled (synchronised now r) bytes
 settled_then None r bytes was is = absurd (let clash : None ≡ Some (Bytes bytes) = sym was ∙ is in cc)
 settled_then (Some value) r bytes was is =
     let same : value ≡ Bytes bytes = cc in

@@ -6,3 +6,5 @@ pub mod Kept
 pub mod Served
 pub mod Flushed
 pub mod Power
+pub mod Settled
+pub mod Again

@@ -1,6 +1,6 @@
 -- Where the power was cut, no later command of a client is good: the drive is off until its session ends.
-use Rattle.std.specs.Prelude.{◌≡◌, ℕ, ◌⊎◌, Bool, true, false, MatchBool, is_some, Result, Ok, Err, List, [], ◌∷◌, ◌++◌, map}
-use Rattle.std.proofs.Common.{refl, sym, ap, ◌∙◌, inl, inr, subst}
+use Rattle.std.specs.Prelude.{◌≡◌, ℕ, Bool, true, false, MatchBool, is_some, Result, Ok, Err, List, [], ◌∷◌, ◌++◌}
+use Rattle.std.proofs.Common.{refl, sym, inl, inr, subst}
 use Rattle.model_sectors.specs.declared.ReadOut.{ReadOut}
 use Rattle.model_sectors.specs.declared.ReadOut.TheVariants as reads
 use Rattle.model_drive.specs.declared.WriteOut.{WriteOut}
@@ -16,6 +16,7 @@ use Rattle.model_sense.specs.declared.answer.Answer.TheVariants as answers
 use Rattle.model_cdb.specs.declared.commands.Command.{Command}
 use Rattle.model_cdb.specs.declared.commands.Command.TheVariants as commands
 use Rattle.model_cdb.specs.Decoding.{decoded}
+use Rattle.model_nbd.specs.Commands.{Command as Part}
 use Rattle.model_target.specs.declared.host.Host.{Host}
 use Rattle.model_target.specs.Judging.{IsJudged}
 use Rattle.model_target.specs.Steps.{WrittenContents, IsDone, IsAnsweredBy, IsStep as ExecutesTo, read_answer, write_answer, sync_answer}
@@ -24,7 +25,7 @@ use Rattle.ram_machine.specs.declared.reply.Reply.{Reply}
 use Rattle.ram_machine.specs.declared.reply.Reply.TheVariants as replies
 use Rattle.ram_machine.specs.declared.stopped.Stopped.TheVariants as stopped
 use Rattle.ram_machine.specs.Replies.{command_outcome}
-use Rattle.ram_machine.specs.States.{State, Served, Unopened, Disc}
+use Rattle.ram_machine.specs.States.{State, Unopened, Disc}
 use Rattle.ram_machine.specs.LineSteps.{OnDisc}
 use Rattle.ram_machine.proofs.Decoded.{asks_for}
 use Rattle.ram_session.specs.Doing.{Did, Doing, commands_in}
@@ -164,3 +165,60 @@ module _ (old new : CacheShown) (s t : Contents) (host later : Host) (cdb payloa
 abbrev pub OffNow : State → Type 0
 OffNow (Unopened image) = ⊥
 OffNow (Disc s) = OffIn s.disc.contents
+
+record SticksNow (s t : State) (answer : Answer) : Type 0 where
+  not_good : OffNow s → ¬ (answer ≡ answers.Good)
+  stays : OffNow s → OffNow t
+  cuts : answer ≡ answers.Cut → OffNow t
+
+outcome_same : (cdb : List ℕ) (answer a : Answer) → Ok (replies.Command cdb answer) ≡ command_outcome cdb a → a ≡ answer
+outcome_same cdb answer answers.Good is = cc
+outcome_same cdb answer (answers.Check why) is = cc
+outcome_same cdb answer answers.Cut is = cc
+outcome_same cdb answer answers.Off is = cc
+outcome_same cdb answer answers.Fault is = absurd cc
+
+no_disc : (reply : Reply) → Ok reply ≡ Err stopped.NotADisc → ⊥
+no_disc reply is = cc
+
+line_sticks : (s t : State) (did : Did) → OnDisc s (lines.Command did.command.cdb) did.command.payload (Ok (replies.Command did.command.cdb did.answer)) did.data_in t
+    → IsOfClient (decoded did.command.cdb did.command.payload) → SticksNow s t did.answer
+line_sticks (Unopened image) t did step client = absurd (no_disc (replies.Command did.command.cdb did.answer) step.0)
+line_sticks (Disc s) (Unopened image) did step client = absurd step
+line_sticks (Disc s) (Disc t) did step client =
+    let is = command_sticks s.disc.shown t.disc.shown s.disc.contents t.disc.contents s.host t.host did.command.cdb did.command.payload did.answer did.data_in
+    (subst (λ (a : Answer). ExecutesTo s.disc.shown t.disc.shown (λ x. x ≡ s.disc.contents) (λ x. x ≡ t.disc.contents) s.host t.host did.command.cdb did.command.payload a did.data_in)
+    (outcome_same did.command.cdb did.answer step.rule.answer step.rule.outcome_is) step.rule.step) client in
+    record { not_good = is.not_good; stays = is.stays; cuts = is.cuts }
+
+-- all commands are such
+abbrev pub EachOfClient : List Part → Type 0
+EachOfClient [] = Unit {0}
+EachOfClient (command ∷ rest) = IsOfClient (decoded command.cdb command.payload) × EachOfClient rest
+
+pub each_front : (front rest : List Part) → EachOfClient (front ++ rest) → EachOfClient front
+each_front [] rest each = tt
+each_front (command ∷ front) rest each = (each.0, each_front front rest each.1)
+
+pub each_last : (front : List Part) (last : Part) → EachOfClient (front ++ last ∷ []) → EachOfClient front × IsOfClient (decoded last.cdb last.payload)
+each_last [] last each = (tt, each.0)
+each_last (command ∷ front) last each = let rest = each_last front last each.1 in ((each.0, rest.0), rest.1)
+
+-- none was cut
+abbrev pub NoneCut : List Did → Type 0
+NoneCut [] = Unit {0}
+NoneCut (did ∷ before) = ¬ (did.answer ≡ answers.Cut) × NoneCut before
+
+-- where the power is on afterwards, it was on before, and none was cut
+pub stayed_on : (s t : State) (dids : List Did) → Doing s dids t → EachOfClient (commands_in dids) → ¬ OffNow t → NoneCut dids × ¬ OffNow s
+stayed_on s t [] does each on = (tt, subst (λ (x : State). ¬ OffNow x) does on)
+stayed_on s t (did ∷ before) does each on =
+    let both = each_last (commands_in before) did.command each in
+    let sticks = line_sticks does.0 t did does.2 both.1 in
+    let rest = stayed_on s does.0 before does.1 both.0 (λ off. on (sticks.stays off)) in
+    ((λ is. on (sticks.cuts is), rest.0), rest.1)
+
+-- where the one command was good, the power was on
+pub good_on : (s t : State) (did : Did) → Doing s (did ∷ []) t → IsOfClient (decoded did.command.cdb did.command.payload) → did.answer ≡ answers.Good → ¬ OffNow s
+good_on s t did does client good off =
+    (line_sticks does.0 t did does.2 client).not_good (subst OffNow (sym does.1) off) good

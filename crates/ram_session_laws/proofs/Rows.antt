@@ -11,7 +11,7 @@ use Rattle.model_cdb.specs.Decoding.{decoded}
 use Rattle.model_nbd.specs.Commands.{Command, Sectors, bare, parts_before, read_cdb, write_cdb}
 use Rattle.ram_text.specs.declared.script.Line.TheVariants as lines
 use Rattle.ram_machine.specs.declared.reply.Reply.TheVariants as replies
-use Rattle.ram_machine.specs.Acknowledged.{IsAmong, LeavesAsDecoded}
+use Rattle.ram_machine.specs.Acknowledged.{IsAmong}
 use Rattle.ram_machine.specs.SectorBytes.{bytes_of_sector, is_sector_among}
 use Rattle.ram_machine.specs.Register.{Value, Bytes, Register, AfterWrite, AfterCommand, goes_through, Turn, Turns}
 use Rattle.ram_session.specs.Doing.{Did, WereGood, commands_in, data_from, step_of}
@@ -127,35 +127,58 @@ by_among : (b : Bool) (Written Left : Type 0) → b ≡ true → MatchBool b Wri
 by_among true Written Left is p = p
 by_among false Written Left is p = absurd (let clash : false ≡ true = is in cc)
 
-module _ (at : ℕ) (Now Falls : Value → Type 0) (settle : (v : Value) → Now v → Falls v) (sent : ℕ → List ℕ) (fua : Bool)
-    (now : Now (Bytes (sent at))) (all : (fua ≡ true) ⊎ ((v : Value) → Falls v)) where
-  -- the part that has the sector writes it, and those after it leave it
-  wrote_last : (r after : Register) (did : Did) (mid n end : ℕ) → Writes sent fua mid n did.command → mid + n ≡ end → did.answer ≡ answers.Good → at < end
-      → ((at < mid) → HasAmong Now Falls r)
-      → AfterCommand at r (decoded did.command.cdb did.command.payload) did.command.payload did.data_in did.answer after → HasAmong Now Falls after
-  wrote_last r after did mid n end writes end_is good within had is = elim (cases_lt at mid) [
-    | inl below ↦ by_command at Now Falls settle r after (decoded did.command.cdb did.command.payload) did.command.payload did.data_in did.answer
-        (subst (LeavesAsDecoded at) (sym writes.asks) (inl below)) is (had below)
-    | inr from ↦
-        let among : IsAmong mid n at = (from, omega (arith, within, end_is)) in
-        let written : MatchBool (is_sector_among mid n at)
-        (AfterWrite r (goes_through r mid n fua) (bytes_of_sector mid did.command.payload at) answers.Good after) (after ≡ r) =
-        subst (λ (a : Answer). AfterCommand at r (Ok (commands.Write mid n fua)) did.command.payload did.data_in a after) good
-        (subst (λ d. AfterCommand at r d did.command.payload did.data_in did.answer after) writes.asks is) in
-        good_write Now Falls settle r after fua (goes_through r mid n fua) (bytes_of_sector mid did.command.payload at)
-        (subst (λ (l : List ℕ). Now (Bytes l)) (sym (writes.sends at among)) now) all (fua_through r mid n fua)
-        (by_among (is_sector_among mid n at) (AfterWrite r (goes_through r mid n fua) (bytes_of_sector mid did.command.payload at) answers.Good after) (after ≡ r)
-        (among_true mid n at among) written)
-  ]
+-- A row of good writes leaves the register so, where the one that has the sector does, and those behind it keep that.
+module _ (at : ℕ) (So : Register → Type 0) (sent : ℕ → List ℕ) (fua : Bool)
+    (puts : (r after : Register) (lba n : ℕ) → AfterWrite r (goes_through r lba n fua) (sent at) answers.Good after → So after)
+    (keeps : (r after : Register) (lba n : ℕ) (payload data_in : List ℕ) → at < lba → AfterCommand at r (Ok (commands.Write lba n fua)) payload data_in answers.Good after → So r → So after) where
+  wrote_last : (r after : Register) (did : Did) (mid n end : ℕ) → Writes sent fua mid n did.command → mid + n ≡ end → did.answer ≡ answers.Good → at < end → ((at < mid) → So r)
+      → AfterCommand at r (decoded did.command.cdb did.command.payload) did.command.payload did.data_in did.answer after → So after
+  wrote_last r after did mid n end writes end_is good within had is =
+      let written = subst (λ (a : Answer). AfterCommand at r (Ok (commands.Write mid n fua)) did.command.payload did.data_in a after) good
+      (subst (λ d. AfterCommand at r d did.command.payload did.data_in did.answer after) writes.asks is) in
+      elim (cases_lt at mid) [
+        | inl below ↦ keeps r after mid n did.command.payload did.data_in below written (had below)
+        | inr from ↦
+            let among : IsAmong mid n at = (from, omega (arith, within, end_is)) in
+            puts r after mid n (subst (λ (l : List ℕ). AfterWrite r (goes_through r mid n fua) l answers.Good after) (writes.sends at among)
+            (by_among (is_sector_among mid n at) (AfterWrite r (goes_through r mid n fua) (bytes_of_sector mid did.command.payload at) answers.Good after) (after ≡ r)
+            (among_true mid n at among) written))
+      ]
 
   pub row_wrote : (r after : Register) (first end : ℕ) (dids : List Did) → Rows (Writes sent fua) first (commands_in dids) end → WereGood dids → first ≤ at → at < end
-      → Turns at r (map step_of dids) after → HasAmong Now Falls after
+      → Turns at r (map step_of dids) after → So after
   row_wrote r after first end [] rows good from within turns = absurd (omega (arith, rows, from, within))
   row_wrote r after first end (did ∷ before) rows good from within turns =
       let last = last_row (Writes sent fua) first (commands_in before) did.command end rows in
       wrote_last turns.0 after did last.mid last.n end last.moves last.end_is good.0 within
       (λ below. row_wrote r turns.0 first last.mid before last.rows good.1 from below turns.1)
       (turned_command at turns.0 after did turns.2)
+
+-- what it has then is these bytes
+put_now : (r after : Register) (through : Bool) (sent : List ℕ) → AfterWrite r through sent answers.Good after → after.now ≡ Some (Bytes sent)
+put_now r after true sent is = ap (λ (q : Register). q.now) is
+put_now r after false sent is = ap (λ (q : Register). q.now) is
+
+below_false : (lba n at : ℕ) → at < lba → is_sector_among lba n at ≡ false
+below_false lba n at below = ap (λ (b : Bool). not b && nat_lt at (lba + n)) (lt-ltb at lba below)
+
+pub left_apart : (b : Bool) (Written Left : Type 0) → b ≡ false → MatchBool b Written Left → Left
+left_apart true Written Left is p = absurd (let clash : true ≡ false = is in cc)
+left_apart false Written Left is p = p
+
+pub row_wrote_now : (at : ℕ) (sent : ℕ → List ℕ) (fua : Bool) (r after : Register) (first end : ℕ) (dids : List Did) → Rows (Writes sent fua) first (commands_in dids) end → WereGood dids → first ≤ at → at < end
+    → Turns at r (map step_of dids) after → after.now ≡ Some (Bytes (sent at))
+row_wrote_now at sent fua = row_wrote at (λ (q : Register). q.now ≡ Some (Bytes (sent at))) sent fua
+    (λ r after lba n is. put_now r after (goes_through r lba n fua) (sent at) is)
+    (λ r after lba n payload data_in below is was. ap (λ (q : Register). q.now)
+    (left_apart (is_sector_among lba n at) (AfterWrite r (goes_through r lba n fua) (bytes_of_sector lba payload at) answers.Good after) (after ≡ r) (below_false lba n at below) is) ∙ was)
+
+pub row_wrote_among : (at : ℕ) (Now Falls : Value → Type 0) (settle : (v : Value) → Now v → Falls v) (sent : ℕ → List ℕ) (fua : Bool) → Now (Bytes (sent at)) → (fua ≡ true) ⊎ ((v : Value) → Falls v)
+    → (r after : Register) (first end : ℕ) (dids : List Did) → Rows (Writes sent fua) first (commands_in dids) end → WereGood dids → first ≤ at → at < end
+    → Turns at r (map step_of dids) after → HasAmong Now Falls after
+row_wrote_among at Now Falls settle sent fua now all = row_wrote at (HasAmong Now Falls) sent fua
+    (λ r after lba n is. good_write Now Falls settle r after fua (goes_through r lba n fua) (sent at) now all (fua_through r lba n fua) is)
+    (λ r after lba n payload data_in below is was. by_command at Now Falls settle r after (Ok (commands.Write lba n fua)) payload data_in answers.Good (inl below) is was)
 
 -- What a row of good reads gave, where the register does not change: as many sectors, and of this one what it has.
 pub record RowRead (at : ℕ) (r after : Register) (first end : ℕ) (dids : List Did) : Type 0 where

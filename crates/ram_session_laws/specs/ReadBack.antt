@@ -1,13 +1,16 @@
 -- What a client may rely on of a sector: which messages wrote it and which read it, by what they ask and how they were told. For the laws
 -- of what is read back. (This project's own, as all here.)
-use Rattle.std.specs.Prelude.{◌≡◌, ℕ, List, []}
+use Rattle.std.specs.Prelude.{◌≡◌, ◌⊎◌, ℕ, List, [], ◌∷◌, ◌++◌}
 use Rattle.model_nbd.specs.declared.NbdOperation.{NbdOperation}
 use Rattle.model_nbd.specs.declared.NbdOperation.TheVariants as operations
 use Rattle.model_nbd.specs.Messages.{Request, reply_bytes}
 use Rattle.model_nbd.specs.Operations.{request_asks}
 use Rattle.model_sectors.specs.Discs.{zeros}
-use Rattle.ram_machine.specs.Acknowledged.{IsAmong}
+use Rattle.ram_text.specs.declared.script.Line.{Line}
+use Rattle.ram_machine.specs.Acknowledged.{IsAmong, LeavesSector}
 use Rattle.ram_machine.specs.SectorBytes.{bytes_of_sector}
+use Rattle.ram_session.specs.Doing.{AsksToLast, WereGood}
+use Rattle.ram_session.specs.Kept.{LeaveByMessages}
 use Rattle.ram_session.specs.Talk.{Asks, Turned}
 
 -- The message is this request, and it was told without an error, with these data.
@@ -43,3 +46,42 @@ pub record WasFlushed (size : ℕ) (turned : Turned) : Type 0 where
   pub request : Request
   pub told : WasToldGood turned request []
   pub asks : request_asks size request.header ≡ operations.Flush
+
+-- The client left by this message, and the drive made all that was written last. (It is not told of that.)
+pub record LeftSynchronised (size : ℕ) (turned : Turned) : Type 0 where
+  pub request : Request
+  pub message_is : turned.message ≡ Asks request
+  pub asks : request_asks size request.header ≡ operations.Disconnect
+  pub good : WereGood turned.dids
+
+-- The newest message but some that leave the sector wrote it with FUA, with these bytes.
+pub record WroteThrough (size at : ℕ) (turns : List Turned) (bytes : List ℕ) : Type 0 where
+  pub after : List Turned
+  pub wrote : Turned
+  pub before : List Turned
+  pub turns_are : turns ≡ after ++ (wrote ∷ before)
+  pub written : WroteSector size at wrote bytes
+  pub with_fua : AsksToLast (request_asks size written.request.header)
+  pub leave : LeaveByMessages size at after
+
+-- A message wrote the sector, and a later one made all last; no other from the first one on wrote the sector.
+pub record WroteAndFlushed (size at : ℕ) (turns : List Turned) (bytes : List ℕ) : Type 0 where
+  pub after : List Turned
+  pub flushed : Turned
+  pub between : List Turned
+  pub wrote : Turned
+  pub before : List Turned
+  pub turns_are : turns ≡ after ++ (flushed ∷ (between ++ (wrote ∷ before)))
+  pub written : WroteSector size at wrote bytes
+  pub lasts : WasFlushed size flushed ⊎ LeftSynchronised size flushed
+  pub leave_between : LeaveByMessages size at between
+  pub leave : LeaveByMessages size at after
+
+-- the sector was written with these bytes, and made to last
+abbrev pub SettledSector : (size at : ℕ) → List Turned → List ℕ → Type 0
+SettledSector size at turns bytes = WroteThrough size at turns bytes ⊎ WroteAndFlushed size at turns bytes
+
+-- None of the faults that the words ask for writes the sector.
+abbrev pub FaultsLeave : (at : ℕ) → List Line → Type 0
+FaultsLeave at [] = Unit {0}
+FaultsLeave at (line ∷ rest) = LeavesSector at line [] × FaultsLeave at rest
