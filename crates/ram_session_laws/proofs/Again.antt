@@ -76,7 +76,7 @@ module _ (at : ℕ) (bytes : List ℕ) where
       let kept = messages_keep size at small OrLost OrLost (λ v is. is) r chain.0 before [] chain.1
       (λ mid was none. carried at OrLost OrLost (λ v is. is) r mid none.0 has)
       (subst (λ (l : List Turned). Chain size at r l chain.0 chain.1) (sym (append-nil before)) chain.2) leave in
-      not_lost found (kept.shows (Bytes found) (message_read size at small chain.0 last chain.1 phase read found chain.4 reads chain.3))
+      not_lost found (kept.shows (Bytes found) (message_read size at small chain.0 last chain.1 phase read found chain.4 reads chain.3).0)
 
 pub read_again : (first second : Beginning) (faults others : List Line) (one : SessionSoFar first faults) (two : SessionSoFar second others) (size large at : ℕ) (read : Turned) (before after : List Turned)
     (bytes found : List ℕ) → export_after one.opened.steps ≡ Serving size → size < 2048 * 2 ^ 32 → SettledSector size at one.turns bytes

@@ -175,9 +175,9 @@ module _ (size at : ℕ) (small : size < 2048 * 2 ^ 32) (Now Falls : Value → T
       wrote_by r after wrote.request.header wrote.request.payload bytes turned.dids (asked_in was next turned.message wrote.request size turned.dids turned.bytes wrote.told.message_is follows).whole.data_are
       now turns (request_asks size wrote.request.header) refl wrote.sends (all_wrote size at was next turned bytes follows wrote) falls
 
--- a read that was told without an error
+-- a read that was told without an error shows the sector, and leaves it
 pub message_read : (size at : ℕ) → size < 2048 * 2 ^ 32 → (r after : Register) (was next : Phase) (turned : Turned) (found : List ℕ) → TurnFollows (Serving size) was turned next → ReadSector size at turned found
-    → Turns at r (map step_of turned.dids) after → r.now ≡ Some (Bytes found)
+    → Turns at r (map step_of turned.dids) after → (r.now ≡ Some (Bytes found)) × (after ≡ r)
 message_read size at small r after was next turned found follows read turns =
     let request : Request = read.request in
     let lba : ℕ = read.lba in
@@ -190,10 +190,12 @@ message_read size at small r after was next turned found follows read turns =
     subst (λ (z : NbdOperation). WereAllGood (commands_of z request.payload) turned.dids) read.asks (all_good (commands_of (request_asks size request.header) request.payload) turned.dids is.done error) in
     let row = row_read at r after lba (lba + n) turned.dids
     (subst (λ (l : List Command). Rows Reads lba l (lba + n)) all.all_done (read_rows size small request.header request.payload is.whole.data_are lba n read.asks))
-    all.good turns in
-    row.shown read.among.0 read.among.1
-    ∙ ap (λ (l : List ℕ). Some (Bytes (bytes_of_sector lba l at))) (sym (told_data request.header.cookie lba n turned.dids read.data_told told))
-    ∙ ap (λ (l : List ℕ). Some (Bytes l)) (sym read.bytes_are)
+    all.good turns in (
+      row.shown read.among.0 read.among.1
+          ∙ ap (λ (l : List ℕ). Some (Bytes (bytes_of_sector lba l at))) (sym (told_data request.header.cookie lba n turned.dids read.data_told told))
+          ∙ ap (λ (l : List ℕ). Some (Bytes l)) (sym read.bytes_are),
+      row.same,
+    )
 
 pub same_bytes : (x y : List ℕ) → Bytes x ≡ Bytes y → x ≡ y
 same_bytes x y is = cc
@@ -204,7 +206,7 @@ pub read_back : (size at : ℕ) (r last : Register) (wrote read : Turned) (befor
 read_back size at r last wrote read before between phase bytes found small chain writes leave reads =
     let has = messages_keep size at small These Any (λ v is. tt) r chain.0 between (wrote ∷ before) chain.1
     (λ mid was sub. message_wrote size at small These Any (λ v is. tt) sub.0 mid sub.1 was wrote bytes sub.4 writes refl (inr (λ v. tt)) sub.3) chain.2 leave in
-    same_bytes found bytes (has.shows (Bytes found) (message_read size at small chain.0 last chain.1 phase read found chain.4 reads chain.3))
+    same_bytes found bytes (has.shows (Bytes found) (message_read size at small chain.0 last chain.1 phase read found chain.4 reads chain.3).0)
   where
     These : Value → Type 0
     These v = v ≡ Bytes bytes

@@ -24,11 +24,11 @@ use Rattle.ram_session.specs.Doing.{Did, Doing, AreDone, WereAllGood, WereGood, 
 use Rattle.ram_session.specs.Talk.{Phase, Greeted, Options, Transmission, Message, Flags, Wants, Asks, Turned, Talk, FollowsBy, TurnFollows, dids_in}
 use Rattle.ram_session.specs.Kept.{LeaveByMessages}
 use Rattle.ram_session.proofs.Kept.{AllBy, all_last, message_leaves}
-use Rattle.ram_session_laws.specs.ReadBack.{SendsToSector, WroteSector, WasFlushed, LeftSynchronised, SettledSector}
+use Rattle.ram_session_laws.specs.ReadBack.{SendsToSector, WroteSector, ReadSector, WasFlushed, LeftSynchronised, SettledSector}
 use Rattle.ram_session_laws.proofs.Registers.{HasAmong, apart_false}
 use Rattle.ram_session_laws.proofs.Told.{asked_in}
 use Rattle.ram_session_laws.proofs.Rows.{Rows, Reads, Writes, row_wrote_now, turned_command, left_apart}
-use Rattle.ram_session_laws.proofs.Chains.{two_runs, map_two, read_rows, write_rows, zero_rows, all_wrote, message_keeps, message_wrote}
+use Rattle.ram_session_laws.proofs.Chains.{two_runs, map_two, read_rows, write_rows, zero_rows, all_wrote, message_keeps, message_wrote, message_read}
 use Rattle.ram_session_laws.proofs.Flushed.{one_did, synchronises, flush_good, settled_then}
 use Rattle.ram_session_laws.proofs.Power.{IsOfClient, OffNow, EachOfClient, each_front, each_last, NoneCut, stayed_on, good_on}
 
@@ -171,17 +171,24 @@ module _ (size at : ℕ) (small : size < 2048 * 2 ^ 32) (s : State) (r : Registe
       (asked_in joint.1 was wrote.message written.request size wrote.dids wrote.bytes written.told.message_is joint.6).whole.data_are joint.5
       (request_asks size written.request.header) refl written.sends (all_wrote size at joint.1 was wrote bytes joint.6 written)
 
+  -- a message that wrote it, or read it
+  had_now : (told : Turned) (before : List Turned) (mid : State) (q : Register) (was : Phase) → WroteSector size at told bytes ⊎ ReadSector size at told bytes → Joint size at s r (told ∷ before) mid q was → q.now ≡ Some (Bytes bytes)
+  had_now told before mid q was (inl written) joint = wrote_now told before mid q was written joint
+  had_now told before mid q was (inr read) joint =
+      let shown = message_read size at small joint.2 q joint.1 was told bytes joint.6 read joint.5 in
+      ap (λ (x : Register). x.now) shown.1 ∙ shown.0
+
   abbrev pub These : Value → Type 0
   These v = v ≡ Bytes bytes
 
   -- a flush behind it
-  flush_by : (flushed : Turned) (between : List Turned) (wrote : Turned) (before : List Turned) (t : State) (last : Register) (phase : Phase) → WroteSector size at wrote bytes → LeaveByMessages size at between
+  flush_by : (flushed : Turned) (between : List Turned) (wrote : Turned) (before : List Turned) (t : State) (last : Register) (phase : Phase) → WroteSector size at wrote bytes ⊎ ReadSector size at wrote bytes → LeaveByMessages size at between
       → (joint : Joint size at s r (flushed ∷ (between ++ (wrote ∷ before))) t last phase) → WereAllGood (bare sync_cdb ∷ []) flushed.dids → HasAmong These These last
   flush_by flushed between wrote before t last phase written leave joint all =
       let one = one_did (bare sync_cdb) flushed.dids all in
       let does : Doing joint.0 (one.did ∷ []) t = subst (λ (ds : List Did). Doing joint.0 ds t) one.dids_are joint.4 in
       let on = good_on joint.0 t one.did does (subst (λ (c : Command). IsOfClient (decoded c.cdb c.payload)) (sym one.command_is) tt) one.good in
-      let now = between_now joint.0 joint.2 between (wrote ∷ before) joint.1 (λ mid q was sub. wrote_now wrote before mid q was written sub) joint.3 leave on in
+      let now = between_now joint.0 joint.2 between (wrote ∷ before) joint.1 (λ mid q was sub. had_now wrote before mid q was written sub) joint.3 leave on in
       let same = synchronises at joint.2 last flushed.dids all joint.5 in
       let settled = subst (λ (q : Register). HasSettled q bytes) (sym same) (settled_then joint.2.now joint.2 bytes refl (sync_now at (Bytes bytes) joint.2.now joint.2 refl ∙ now)) in
       record { shows = settled.shows; falls = settled.falls }
@@ -200,8 +207,8 @@ module _ (size at : ℕ) (small : size < 2048 * 2 ^ 32) (s : State) (r : Registe
       (λ mid q was sub. message_wrote size at small These These (λ v is. is) sub.2 q sub.1 was through.wrote bytes sub.6 through.written refl (inl through.with_fua) sub.5)
       (subst (λ (l : List Turned). Joint size at s r l t last phase) through.turns_are joint) through.leave
   settled_last t last turns phase joint (inr flush) =
-      keep_joint t last flush.after (flush.flushed ∷ (flush.between ++ (flush.wrote ∷ flush.before))) phase
-      (λ mid q was sub. flush_by flush.flushed flush.between flush.wrote flush.before mid q was flush.written flush.leave_between sub (by sub.1 was sub.6 flush.lasts))
+      keep_joint t last flush.after (flush.flushed ∷ (flush.between ++ (flush.told ∷ flush.before))) phase
+      (λ mid q was sub. flush_by flush.flushed flush.between flush.told flush.before mid q was flush.had flush.leave_between sub (by sub.1 was sub.6 flush.lasts))
       (subst (λ (l : List Turned). Joint size at s r l t last phase) flush.turns_are joint) flush.leave
     where
       by : (was next : Phase) → TurnFollows (Serving size) was flush.flushed next → WasFlushed size flush.flushed ⊎ LeftSynchronised size flush.flushed → WereAllGood (bare sync_cdb ∷ []) flush.flushed.dids

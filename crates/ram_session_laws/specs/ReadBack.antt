@@ -64,22 +64,23 @@ pub record WroteThrough (size at : ℕ) (turns : List Turned) (bytes : List ℕ)
   pub with_fua : AsksToLast (request_asks size written.request.header)
   pub leave : LeaveByMessages size at after
 
--- A message wrote the sector, and a later one made all last; no other from the first one on wrote the sector.
-pub record WroteAndFlushed (size at : ℕ) (turns : List Turned) (bytes : List ℕ) : Type 0 where
+-- A message wrote these bytes to the sector or read them of it, and a later one made all last; no other from the first one on wrote the
+-- sector.
+pub record HadAndFlushed (size at : ℕ) (turns : List Turned) (bytes : List ℕ) : Type 0 where
   pub after : List Turned
   pub flushed : Turned
   pub between : List Turned
-  pub wrote : Turned
+  pub told : Turned
   pub before : List Turned
-  pub turns_are : turns ≡ after ++ (flushed ∷ (between ++ (wrote ∷ before)))
-  pub written : WroteSector size at wrote bytes
+  pub turns_are : turns ≡ after ++ (flushed ∷ (between ++ (told ∷ before)))
+  pub had : WroteSector size at told bytes ⊎ ReadSector size at told bytes
   pub lasts : WasFlushed size flushed ⊎ LeftSynchronised size flushed
   pub leave_between : LeaveByMessages size at between
   pub leave : LeaveByMessages size at after
 
--- the sector was written with these bytes, and made to last
+-- the sector has these bytes, and was made to last
 abbrev pub SettledSector : (size at : ℕ) → List Turned → List ℕ → Type 0
-SettledSector size at turns bytes = WroteThrough size at turns bytes ⊎ WroteAndFlushed size at turns bytes
+SettledSector size at turns bytes = WroteThrough size at turns bytes ⊎ HadAndFlushed size at turns bytes
 
 -- None of the faults that the words ask for writes the sector.
 abbrev pub FaultsLeave : (at : ℕ) → List Line → Type 0

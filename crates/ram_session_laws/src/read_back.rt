@@ -41,10 +41,11 @@ pub fn a_flush_makes_values_last()
         → after.now ≡ Some (Bytes bytes) → HasSettled after bytes }
 {}
 
-/// What a client wrote and made to last is read back in the next session. In the first one a message wrote the sector with FUA, or one
-/// wrote it and a later one made all last: a FLUSH that was told without an error, or the client's leave. No message after the first of
-/// these writes the sector. The image is handed back, and a second session begins with it, whose disc has the same kind of layout. If
-/// there a message that is told without an error reads the sector, and none before it wrote it, its data have the bytes that were sent.
+/// What a client wrote and made to last is read back in the next session. In the first one a message wrote the sector with FUA; or one
+/// wrote it or read it, and a later one made all last: a FLUSH that was told without an error, or the client's leave. No message after
+/// the first of these writes the sector. The image is handed back, and a second session begins with it, whose disc has the same kind of
+/// layout. If there a message that is told without an error reads the sector, and none before it wrote it, its data have the bytes that
+/// the sector had.
 pub fn a_settled_sector_is_read_in_the_next_session()
     ensures { (first second : Beginning) (faults others : List Line) (one : SessionSoFar first faults)
         (two : SessionSoFar second others) (size large at : ℕ) (read : Turned) (before after : List Turned)
