@@ -8,3 +8,4 @@ pub mod Flushed
 pub mod Power
 pub mod Settled
 pub mod Again
+pub mod Faultless
