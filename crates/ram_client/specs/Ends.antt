@@ -25,10 +25,11 @@ pub record IsToBegin (first : Beginning) (faults : List Line) (words : List (Lis
 
 -- How a session over an image that was looked at ends, by its status: before a client was greeted, so that nothing came and nothing was
 -- told; or behind that. (`leaves` tells which states may be left.)
-abbrev pub SessionEnds : Beginning → (faults : List Line) → (leaves : State → Type 0) → (left written : Option (List ℕ)) → Status
-    → Type 0
+abbrev pub SessionEnds : Beginning → (faults : List Line) → (leaves : State → Type 0) → (left written : Option (List ℕ))
+    → Status → Type 0
 SessionEnds first faults leaves left written statuses.Script =
-    (EndsAtFault first faults leaves × IsBeforeTalk first left written) ⊎ TalkEnds first faults leaves left written statuses.Script
+    (EndsAtFault first faults leaves × IsBeforeTalk first left written)
+    ⊎ TalkEnds first faults leaves left written statuses.Script
 SessionEnds first faults leaves left written statuses.ImageFault =
     (EndsInOpening first faults leaves × IsBeforeTalk first left written)
     ⊎ TalkEnds first faults leaves left written statuses.ImageFault

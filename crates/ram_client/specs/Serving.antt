@@ -16,7 +16,8 @@ use Rattle.ram_session.specs.Session.{IsToldBy, SessionStands, SessionCounts}
 use Rattle.ram_session.specs.Promise.{KeepsSession}
 
 -- By what is known before and after, where the opener tells what is handed back or not, and by the status.
-module _ {I : Type 0} (bytes_of : I → Option (List ℕ)) (past_of : I → Option (List Moment)) (knows : Bool) (old new : Surroundings I) (status : Status) where
+module _ {I : Type 0} (bytes_of : I → Option (List ℕ)) (past_of : I → Option (List Moment)) (knows : Bool)
+    (old new : Surroundings I) (status : Status) where
   -- What is promised of a client that is served the disc in the image of this name, after these faults: the opener is asked for that image,
   -- once, to be read and written. Where the bytes of client, replies and image are known, the session stands as its status says (`session`),
   -- or no image was opened; each sector is a register (`promise`); and whenever more was asked for, all that was due was told (`talks`). The

@@ -52,7 +52,8 @@ pub fn converse<D: Drive, T: Conversation>(
     requires room { HasMessageRoom rooms.old }
     ensures other { IsOfSession result }
     ensures ends { (first : Beginning) (faults : List Line)
-        → IsToBegin first faults (map (λ word. word.now) words.now) (Stands D.Caching D.lies_in D.Image.Image inserted.old)
+        → IsToBegin first faults (map (λ word. word.now) words.now)
+        (Stands D.Caching D.lies_in D.Image.Image inserted.old)
         (T.left talk.old) (T.Sink.Sink.written (T.report talk.old))
         → SessionEnds first faults (Stands D.Caching D.lies_in D.Image.Image inserted.new)
         (T.left talk.new) (T.Sink.Sink.written (T.report talk.new)) result }
@@ -60,7 +61,8 @@ pub fn converse<D: Drive, T: Conversation>(
         (counts_now T.Conversation T.Sink.Sink talk.old (faults_of D.Caching D.Image.Image inserted.old))
         (counts_now T.Conversation T.Sink.Sink talk.new (faults_of D.Caching D.Image.Image inserted.new)) result }
     ensures asks { (first : Beginning) (faults : List Line)
-        → IsToBegin first faults (map (λ word. word.now) words.now) (Stands D.Caching D.lies_in D.Image.Image inserted.old)
+        → IsToBegin first faults (map (λ word. word.now) words.now)
+        (Stands D.Caching D.lies_in D.Image.Image inserted.old)
         (T.left talk.old) (T.Sink.Sink.written (T.report talk.old))
         → AsksOnly (IsToldBy first faults) (T.asked talk.old) (T.asked talk.new) }
 {
