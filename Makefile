@@ -7,7 +7,7 @@ DESTDIR =
 INSTALL = install
 
 program = crates/ram_drive/out/ram_drive
-commands = dvdram-iscsi nbdkit-dvdram-plugin ram-ctl ram-map
+commands = dvdram-iscsi dvdram-nbd nbdkit-dvdram-plugin ram-ctl ram-map
 pages = ram_drive.1 dvdram-iscsi.1 nbdkit-dvdram-plugin.1 ram-map.1
 bin = $(DESTDIR)$(PREFIX)/bin
 lib = $(DESTDIR)$(PREFIX)/lib/ram_drive

@@ -1,9 +1,10 @@
-# Completes the words of ram_drive, ram-map, ram-ctl, nbdkit-dvdram-plugin and dvdram-iscsi in bash.
+# Completes the words of ram_drive, ram-map, ram-ctl, nbdkit-dvdram-plugin, dvdram-iscsi and dvdram-nbd in bash.
 
 _ram_drive() {
     case $COMP_CWORD in
-        1) mapfile -t COMPREPLY < <(compgen -W 'run groups generate audit check --help --version' -- "$2") ;;
+        1) mapfile -t COMPREPLY < <(compgen -W 'run groups generate audit check nbd --help --version' -- "$2") ;;
         2) [[ ${COMP_WORDS[1]} == --* ]] || mapfile -t COMPREPLY < <(compgen -f -- "$2") ;;
+        *) [[ ${COMP_WORDS[1]} != nbd ]] || mapfile -t COMPREPLY < <(compgen -W 'fail wear cut' -- "$2") ;;
     esac
 }
 
@@ -26,6 +27,10 @@ _ram_ctl() {
 
 _nbdkit_dvdram_plugin() {
     _dvdram_parameters "$2" "$3" 'image layout press format force program control poweroff'
+}
+
+_dvdram_nbd() {
+    mapfile -t COMPREPLY < <(compgen -f -- "$2"; compgen -W '--socket fail wear cut' -- "$2")
 }
 
 _dvdram_iscsi() {
@@ -51,3 +56,4 @@ complete -F _ram_map ram-map
 complete -F _ram_ctl ram-ctl
 complete -F _nbdkit_dvdram_plugin nbdkit-dvdram-plugin
 complete -F _dvdram_iscsi dvdram-iscsi
+complete -F _dvdram_nbd dvdram-nbd

@@ -10,7 +10,8 @@ from support import FILES, NBD, ROOT, SECONDS, TOOLS, FolderTest, done, needs, r
 
 PAGE = ROOT / "docs" / "BLOCK_DEVICE.md"
 BLOCKS = re.compile(r"^```console\n(.*?)^```$", re.M | re.S)
-QUICK = re.compile(r"^## (?:Quick start|Use it as a disk)\n.*?^```(?:text)?\n(.*?)^```$", re.M | re.S)
+PARTS = "Quick start|Use it as a disk|The program itself"
+QUICK = re.compile(rf"^##+ (?:{PARTS})\n.*?^```text\n(.*?)^```$", re.M | re.S)
 MARK = "@@@"
 # Blocks are slipped, replaced and retired, spares are added, one block is torn, and one is dead that nobody
 # has written since.
@@ -41,6 +42,16 @@ def steps_of(text: str) -> list[tuple[str, str]]:
     return list(zip(parts[1::2], parts[2::2]))
 
 
+def quick_starts(page: Path) -> list[str]:
+    """The first lines of each part of a page, where the folder has what they name."""
+    for name in ("tools", "examples"):
+        Path(name).symlink_to(ROOT / name)
+    drive = Path("drive")
+    drive.write_text(f'#!/bin/sh\nexec {ROOT / "drive"} "$@"\n', encoding="utf-8")
+    drive.chmod(0o755)
+    return QUICK.findall(page.read_text(encoding="utf-8"))
+
+
 class Documents(FolderTest):
     """The documents of the tools."""
 
@@ -61,14 +72,30 @@ class Documents(FolderTest):
             with self.subTest(command):
                 self.assertEqual(one, due)
 
+    @needs("nbdinfo")
+    def test_quick_start_of_the_program(self) -> None:
+        """The three lines on the program itself work as they stand, once the server listens."""
+        served = quick_starts(PAGE)[0].replace("&\n", "& until [ -S disk.sock ]; do sleep 0.1; done\n")
+        told = done("bash", "-c", served + "kill %1\n").stdout
+        for due in ("end 4", "export-size: 32178176", "block_size_minimum: 2048"):
+            self.assertIn(due, told)
+
+    @needs("nbdfuse", "fuse")
+    def test_disk_of_readme(self) -> None:
+        """The lines of README make a disk of a new disc."""
+        lines = quick_starts(ROOT / "README.md")[0].rstrip("\n")
+        script = f"""{lines} 2>fuse.log &
+until [ -e mnt/disk ]; do sleep 0.1; done
+stat -c %s mnt/disk
+until umount mnt 2>/dev/null; do sleep 0.1; done
+wait
+"""
+        self.assertIn("end 4\n32178176\n", done("bash", "-c", script).stdout)
+
     @needs(*NBD, "nbdinfo")
-    def test_quick_starts(self) -> None:
-        """The three lines of the page and of README work as they stand."""
-        lines = [QUICK.findall(path.read_text(encoding="utf-8")) for path in (PAGE, ROOT / "README.md")]
-        quick = lines[0][0]
-        self.assertIn(quick, "".join(lines[1]), "the lines in README.md")
-        Path("tools").symlink_to(TOOLS)
-        script = quick.replace("plugin ", "plugin -P disk.pid ") + "kill $(cat disk.pid)\n"
+    def test_quick_start_of_the_plugin(self) -> None:
+        """The three lines on the plugin work as they stand."""
+        script = quick_starts(PAGE)[1].replace("plugin ", "plugin -P disk.pid ") + "kill $(cat disk.pid)\n"
         told = done("bash", "-c", script).stdout
         for due in ("export-size: 32178176", "block_size_minimum: 2048", "failed\ndead 25\n"):
             self.assertIn(due, told)

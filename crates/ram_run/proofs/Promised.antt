@@ -1,5 +1,5 @@
 -- All promises, by the form that the words have: what the others say is of other words.
-use Rattle.std.specs.Prelude.{◌≡◌, ℕ, ◌+◌, ◌*◌, ◌⊎◌, Bool, Option, List, [], length, get_or, codes}
+use Rattle.std.specs.Prelude.{◌≡◌, ℕ, ◌+◌, ◌*◌, ◌⊎◌, Bool, Option, List, [], ◌∷◌, length, get_or, drop, codes}
 use Rattle.std.proofs.Common.{arith, refl, sym, ap, ◌∙◌, inl, inr, subst}
 use Rattle.model_geometry.specs.declared.kinds.LayoutKind.{LayoutKind}
 use Rattle.model_geometry.specs.declared.kinds.LayoutKind.TheVariants.{OneGroup, EachZone}
@@ -9,9 +9,12 @@ use Rattle.ram_outside.specs.Past.{Moment}
 use Rattle.ram_script.specs.Around.{Surroundings, IsUntouched, UntouchedByUsage, TellsText, TextCount}
 use Rattle.ram_script.specs.Endings.{IsOfRun, StatusCounts}
 use Rattle.ram_script.specs.RunCounts.{SameCounts, counts_of}
+use Rattle.ram_text.specs.declared.script.Line.{Line}
+use Rattle.ram_text.specs.Faults.{AreFaultWords}
 use Rattle.ram_certificate.specs.Auditing.{Audits, Checks}
+use Rattle.ram_client.specs.Serving.{ServesClient}
 use Rattle.ram_run.specs.declared.help.TheConstants.{HELP, VERSION}
-use Rattle.ram_run.specs.Words.{IsServedOf, IsGenerateOf, IsAuditOf, IsCheckOf, IsHelp, IsVersion, IsWordForm, UsageRule, MemoryRule}
+use Rattle.ram_run.specs.Words.{IsServedOf, IsGenerateOf, IsAuditOf, IsCheckOf, IsNbdOf, AsksForSession, IsHelp, IsVersion, IsWordForm, UsageRule, MemoryRule}
 use Rattle.ram_run.specs.Promises.{RunsScript, RunsDrawn, Promises}
 use Rattle.ram_run.proofs.Few.{one_served, one_generate, one_name}
 
@@ -33,6 +36,9 @@ audit_number words name is = ap number is
 
 check_number : (words : List (List ℕ)) (name : List ℕ) → IsCheckOf name words → number words ≡ 1379
 check_number words name is = ap number is
+
+nbd_number : (words : List (List ℕ)) (name : List ℕ) (faults : List Line) → IsNbdOf name faults words → number words ≡ 878
+nbd_number words name faults is = ap number is.1
 
 help_number : (words : List (List ℕ)) → IsHelp words → number words ≡ 1581
 help_number words is = ap number is
@@ -109,8 +115,9 @@ module _ {I : Type 0} (bytes_of : I → Option (List ℕ)) (past_of : I → Opti
     version = λ words_are. absurd (none (inr (inr (inr (inl words_are)))));
     script = λ kind name words_are. absurd (none (inl (kind, (name, words_are))));
     drawn = λ name seed words_are. absurd (none (inr (inl (name, seed, words_are))));
-    audit = λ name words_are. absurd (none (inr (inr (inr (inr (name, inl words_are))))));
-    check = λ name words_are. absurd (none (inr (inr (inr (inr (name, inr words_are))))));
+    audit = λ name words_are. absurd (none (inr (inr (inr (inr (inl (name, inl words_are)))))));
+    check = λ name words_are. absurd (none (inr (inr (inr (inr (inl (name, inr words_are)))))));
+    client = λ name faults words_are. absurd (none (inr (inr (inr (inr (inr (name, faults, words_are)))))));
   }
     where
       untouched : IsUntouched old new
@@ -130,6 +137,7 @@ module _ {I : Type 0} (bytes_of : I → Option (List ℕ)) (past_of : I → Opti
       drawn = λ name' seed' other. let a = help_number words is in let b = drawn_number words name' seed' other in absurd (omega (arith, a, b));
       audit = λ name' other. let a = help_number words is in let b = audit_number words name' other in absurd (omega (arith, a, b));
       check = λ name' other. let a = help_number words is in let b = check_number words name' other in absurd (omega (arith, a, b));
+      client = λ name' faults' other. let a = help_number words is in let b = nbd_number words name' faults' other in absurd (omega (arith, a, b));
     }
 
     -- the version is told
@@ -145,6 +153,7 @@ module _ {I : Type 0} (bytes_of : I → Option (List ℕ)) (past_of : I → Opti
       drawn = λ name' seed' other. let a = version_number words is in let b = drawn_number words name' seed' other in absurd (omega (arith, a, b));
       audit = λ name' other. let a = version_number words is in let b = audit_number words name' other in absurd (omega (arith, a, b));
       check = λ name' other. let a = version_number words is in let b = check_number words name' other in absurd (omega (arith, a, b));
+      client = λ name' faults' other. let a = version_number words is in let b = nbd_number words name' faults' other in absurd (omega (arith, a, b));
     }
 
     -- a script runs
@@ -161,6 +170,7 @@ module _ {I : Type 0} (bytes_of : I → Option (List ℕ)) (past_of : I → Opti
       drawn = λ name' seed' other. absurd (not_served words 2151 (drawn_number words name' seed' other) (λ e. omega (arith, e)) (λ e. omega (arith, e)) kind name is);
       audit = λ name' other. absurd (not_served words 1377 (audit_number words name' other) (λ e. omega (arith, e)) (λ e. omega (arith, e)) kind name is);
       check = λ name' other. absurd (not_served words 1379 (check_number words name' other) (λ e. omega (arith, e)) (λ e. omega (arith, e)) kind name is);
+      client = λ name' faults' other. absurd (not_served words 878 (nbd_number words name' faults' other) (λ e. omega (arith, e)) (λ e. omega (arith, e)) kind name is);
     }
 
     -- a drawn script runs
@@ -177,13 +187,14 @@ module _ {I : Type 0} (bytes_of : I → Option (List ℕ)) (past_of : I → Opti
           subst (λ (n : List ℕ). RunsDrawn bytes_of past_of knows old new status n seed') same.0 (subst (λ (s : ℕ). RunsDrawn bytes_of past_of knows old new status name s) same.1 keeps);
       audit = λ name' other. let a = drawn_number words name seed is in let b = audit_number words name' other in absurd (omega (arith, a, b));
       check = λ name' other. let a = drawn_number words name seed is in let b = check_number words name' other in absurd (omega (arith, a, b));
+      client = λ name' faults' other. let a = drawn_number words name seed is in let b = nbd_number words name' faults' other in absurd (omega (arith, a, b));
     }
 
     -- an image is told
     pub of_audit : (name : List ℕ) → IsAuditOf name words → Audits bytes_of old new knows name status → Promises bytes_of past_of knows old new status words
     of_audit name is keeps = record {
       memory = remembers status of;
-      usage = has_form words status of (inr (inr (inr (inr (name, inl is)))));
+      usage = has_form words status of (inr (inr (inr (inr (inl (name, inl is))))));
       untouched = may_touch old new status of;
       causes = causes;
       help = λ other. let a = audit_number words name is in let b = help_number words other in absurd (omega (arith, a, b));
@@ -192,13 +203,14 @@ module _ {I : Type 0} (bytes_of : I → Option (List ℕ)) (past_of : I → Opti
       drawn = λ name' seed' other. let a = audit_number words name is in let b = drawn_number words name' seed' other in absurd (omega (arith, a, b));
       audit = λ name' other. subst (λ (n : List ℕ). Audits bytes_of old new knows n status) (one_name words (codes "audit") (codes "audit") name name' is other) keeps;
       check = λ name' other. let a = audit_number words name is in let b = check_number words name' other in absurd (omega (arith, a, b));
+      client = λ name' faults' other. let a = audit_number words name is in let b = nbd_number words name' faults' other in absurd (omega (arith, a, b));
     }
 
     -- a text is checked
     pub of_check : (name : List ℕ) → IsCheckOf name words → Checks bytes_of old new knows name status → Promises bytes_of past_of knows old new status words
     of_check name is keeps = record {
       memory = remembers status of;
-      usage = has_form words status of (inr (inr (inr (inr (name, inr is)))));
+      usage = has_form words status of (inr (inr (inr (inr (inl (name, inr is))))));
       untouched = may_touch old new status of;
       causes = causes;
       help = λ other. let a = check_number words name is in let b = help_number words other in absurd (omega (arith, a, b));
@@ -207,4 +219,31 @@ module _ {I : Type 0} (bytes_of : I → Option (List ℕ)) (past_of : I → Opti
       drawn = λ name' seed' other. let a = check_number words name is in let b = drawn_number words name' seed' other in absurd (omega (arith, a, b));
       audit = λ name' other. let a = check_number words name is in let b = audit_number words name' other in absurd (omega (arith, a, b));
       check = λ name' other. subst (λ (n : List ℕ). Checks bytes_of old new knows n status) (one_name words (codes "check") (codes "check") name name' is other) keeps;
+      client = λ name' faults' other. let a = check_number words name is in let b = nbd_number words name' faults' other in absurd (omega (arith, a, b));
     }
+
+    -- a client is served
+    pub of_client : (name : List ℕ) (asked : List (List ℕ)) → AsksForSession name asked words
+        → ((faults : List Line) → AreFaultWords asked faults → ServesClient bytes_of past_of knows old new status name faults)
+        → Promises bytes_of past_of knows old new status words
+    of_client name asked is keeps = record {
+      memory = remembers status of;
+      usage = has_form words status of (inr (inr (inr (inr (inr (name, is.faults, whole))))));
+      untouched = may_touch old new status of;
+      causes = causes;
+      help = λ other. let a = here in let b = help_number words other in absurd (omega (arith, a, b));
+      version = λ other. let a = here in let b = version_number words other in absurd (omega (arith, a, b));
+      script = λ kind' name' other. absurd (not_served words 878 here (λ e. omega (arith, e)) (λ e. omega (arith, e)) kind' name' other);
+      drawn = λ name' seed' other. let a = here in let b = drawn_number words name' seed' other in absurd (omega (arith, a, b));
+      audit = λ name' other. let a = here in let b = audit_number words name' other in absurd (omega (arith, a, b));
+      check = λ name' other. let a = here in let b = check_number words name' other in absurd (omega (arith, a, b));
+      client = λ name' faults' other.
+          let same : codes "nbd" ∷ name ∷ asked ≡ codes "nbd" ∷ name' ∷ other.0 = sym is.words_are ∙ other.1 in
+          subst (λ (n : List ℕ). ServesClient bytes_of past_of knows old new status n faults') (ap (λ (l : List (List ℕ)). get_or l 1 []) same)
+          (keeps faults' (subst (λ (l : List (List ℕ)). AreFaultWords l faults') (sym (ap (λ (l : List (List ℕ)). drop 2 l) same)) other.2));
+    } where
+      whole : IsNbdOf name is.faults words
+      whole = (asked, is.words_are, is.read)
+
+      here : number words ≡ 878
+      here = nbd_number words name is.faults whole

@@ -1,5 +1,5 @@
 -- That a run of the program's words keeps the promise, also where no image was opened.
-use Rattle.std.specs.Prelude.{◌≡◌, ℕ, ◌⊎◌, Bool, Option, List}
+use Rattle.std.specs.Prelude.{ℕ, ◌⊎◌, Bool, Option, List}
 use Rattle.std.proofs.Common.{◌∙◌, inl, inr}
 use Rattle.ram_machine.specs.declared.status.Status.{Status}
 use Rattle.ram_script.specs.Around.{Surroundings, IsNotOpened}

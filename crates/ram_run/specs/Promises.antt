@@ -4,6 +4,7 @@ use Rattle.model_geometry.specs.declared.kinds.LayoutKind.{LayoutKind}
 use Rattle.ram_outside.specs.Conversation.{AsksOnly}
 use Rattle.ram_outside.specs.Past.{Moment}
 use Rattle.ram_outside.specs.declared.opener.Access.TheVariants.{ReadWrite}
+use Rattle.ram_text.specs.declared.script.Line.{Line}
 use Rattle.ram_machine.specs.declared.status.Status.{Status}
 use Rattle.ram_machine.specs.declared.status.Status.TheVariants as statuses
 use Rattle.ram_script.specs.Asking.{IsAnsweredBy}
@@ -15,8 +16,9 @@ use Rattle.ram_script.specs.Progress.{Beginning}
 use Rattle.ram_script.specs.Promise.{KeepsBytes}
 use Rattle.ram_summary.specs.Generating.{BeginsFrom, Generates, AsksUnread}
 use Rattle.ram_certificate.specs.Auditing.{Audits, Checks}
+use Rattle.ram_client.specs.Serving.{ServesClient}
 use Rattle.ram_run.specs.declared.help.TheConstants.{HELP, VERSION}
-use Rattle.ram_run.specs.Words.{IsServedOf, IsGenerateOf, IsAuditOf, IsCheckOf, IsHelp, IsVersion, UsageRule, MemoryRule}
+use Rattle.ram_run.specs.Words.{IsServedOf, IsGenerateOf, IsAuditOf, IsCheckOf, IsNbdOf, IsHelp, IsVersion, UsageRule, MemoryRule}
 
 -- By what is known before and after, where the opener tells what is handed back or not, and by the status.
 module _ {I : Type 0} (bytes_of : I → Option (List ℕ)) (past_of : I → Option (List Moment)) (knows : Bool) (old new : Surroundings I) (status : Status) where
@@ -56,3 +58,5 @@ module _ {I : Type 0} (bytes_of : I → Option (List ℕ)) (past_of : I → Opti
     pub drawn : (name : List ℕ) (seed : ℕ) → IsGenerateOf name seed words → RunsDrawn name seed
     pub audit : (name : List ℕ) → IsAuditOf name words → Audits bytes_of old new knows name status
     pub check : (name : List ℕ) → IsCheckOf name words → Checks bytes_of old new knows name status
+    pub client : (name : List ℕ) (faults : List Line) → IsNbdOf name faults words
+        → ServesClient bytes_of past_of knows old new status name faults

@@ -1,15 +1,12 @@
 -- The words of the program, and what it does for each. For the main clause of the run.
-use Rattle.std.specs.Prelude.{◌≡◌, ℕ, ◌⊎◌, ◌&&◌, nat_lt, nat_le, if◌then◌else◌, Option, None, Some, List, [], ◌∷◌, length, take, codes}
+use Rattle.std.specs.Prelude.{◌≡◌, ℕ, ◌⊎◌, ◌&&◌, nat_lt, nat_le, if◌then◌else◌, Option, None, Some, List, [], ◌∷◌, length, map, codes}
 use Rattle.std.specs.Char.{is_ascii_digit}
-use Rattle.std.specs.Io.KnownBytes.{append_known}
 use Rattle.std.specs.List.{list_all}
-use Rattle.model_counts.specs.Counts.{Rose}
 use Rattle.model_geometry.specs.declared.kinds.LayoutKind.{LayoutKind}
 use Rattle.model_geometry.specs.declared.kinds.LayoutKind.TheVariants.{OneGroup, EachZone}
-use Rattle.ram_outside.specs.Opener.{OpenerView, opener_view, and_asked}
-use Rattle.ram_outside.specs.declared.opener.Opener.{Ghosts as Openers}
 use Rattle.ram_text.specs.ScriptWords.{decimal_value}
-use Rattle.ram_script.specs.RunCounts.{Counts, counts_of}
+use Rattle.ram_text.specs.Faults.{AreFaultWords}
+use Rattle.ram_text.specs.declared.script.Line.{Line}
 use Rattle.ram_run.specs.declared.form.Form.{Form}
 use Rattle.ram_run.specs.declared.form.Form.TheVariants as forms
 use Rattle.ram_machine.specs.declared.status.Status.{Status}
@@ -56,6 +53,15 @@ IsCheckOf name words = words ≡ codes "check" ∷ name ∷ []
 abbrev pub IsOfCertificate : List (List ℕ) → Type 0
 IsOfCertificate words = (name : List ℕ) × (IsAuditOf name words ⊎ IsCheckOf name words)
 
+-- the words are `nbd`, this name of an image, and words that read as these faults
+abbrev pub IsNbdOf : List ℕ → List Line → List (List ℕ) → Type 0
+IsNbdOf name faults words =
+    (asked : List (List ℕ)) × (words ≡ codes "nbd" ∷ name ∷ asked) × AreFaultWords asked faults
+
+-- the words are `nbd`, the name of an image, and words that read as faults
+abbrev pub IsNbd : List (List ℕ) → Type 0
+IsNbd words = (name : List ℕ) × (faults : List Line) × IsNbdOf name faults words
+
 -- the words are `--help` alone
 abbrev pub IsHelp : List (List ℕ) → Type 0
 IsHelp words = words ≡ codes "--help" ∷ []
@@ -68,7 +74,7 @@ IsVersion words = words ≡ codes "--version" ∷ []
 abbrev pub IsWordForm : List (List ℕ) → Type 0
 IsWordForm words =
     ((kind : LayoutKind) × IsServedImage kind words) ⊎ IsGenerate words ⊎ IsHelp words ⊎ IsVersion words
-    ⊎ IsOfCertificate words
+    ⊎ IsOfCertificate words ⊎ IsNbd words
 
 -- the words are none of the program's forms exactly where the status is that of usage
 abbrev pub UsageRule : List (List ℕ) → Status → Type 0
@@ -80,6 +86,18 @@ abbrev pub MemoryRule : Status → Type 0
 MemoryRule statuses.NoMemory = ⊥
 MemoryRule _ = Unit {0}
 
+-- the words are `nbd`, this name of an image, and these words, which read as faults
+pub record AsksForSession (name : List ℕ) (asked words : List (List ℕ)) : Type 0 where
+  pub faults : List Line
+  pub read : AreFaultWords asked faults
+  pub words_are : words ≡ codes "nbd" ∷ name ∷ asked
+
+-- the form of words that ask for a session, and none of others
+abbrev pub SessionRule : List (List ℕ) → Option Form → Type 0
+SessionRule words None = ¬ IsNbd words
+SessionRule words (Some (forms.Nbd name asked)) = AsksForSession name.now (map (λ word. word.now) asked.now) words
+SessionRule words (Some form) = ⊥
+
 -- the form of the words, where they have one
 abbrev pub FormRule : List (List ℕ) → Option Form → Type 0
 FormRule words None = ¬ IsWordForm words
@@ -87,5 +105,6 @@ FormRule words (Some (forms.Run kind name)) = IsServedOf kind name.now words
 FormRule words (Some (forms.Generate name seed)) = IsGenerateOf name.now seed words
 FormRule words (Some (forms.Audit name)) = IsAuditOf name.now words
 FormRule words (Some (forms.Check name)) = IsCheckOf name.now words
+FormRule words (Some (forms.Nbd name asked)) = AsksForSession name.now (map (λ word. word.now) asked.now) words
 FormRule words (Some forms.Help) = IsHelp words
 FormRule words (Some forms.Version) = IsVersion words

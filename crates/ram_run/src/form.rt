@@ -1,8 +1,11 @@
 //! The forms of the program's words.
-ghost use Rattle.std.specs.Prelude.{map};
-ghost use Rattle.ram_run.specs.Words.{FormRule};
+ghost use Rattle.std.specs.Prelude.{◌≡◌, is_some, map};
+ghost use Rattle.std.specs.List.{list_all};
+ghost use Rattle.ram_text.specs.Faults.{fault_word};
+ghost use Rattle.ram_run.specs.Words.{FormRule, SessionRule};
 
 use crate::seed::seed_of;
+use ram_text::parse_fault;
 use ram_zones::LayoutKind;
 
 /// The forms of the program's words.
@@ -16,6 +19,8 @@ pub enum Form<'a> {
     Audit(&'a str),
     /// Check a text against the image of this name.
     Check(&'a str),
+    /// Serve a client the disc in the image of this name, in which the words make something fail.
+    Nbd(&'a str, &'a [&'a str]),
     /// Tell what the program does.
     Help,
     /// Tell the program's version.
@@ -23,7 +28,7 @@ pub enum Form<'a> {
 }
 
 /// The form of the words, if they have one.
-pub fn form_of<'a>(words: &[&'a str]) -> Option<Form<'a>>
+pub fn form_of<'a>(words: &'a [&'a str]) -> Option<Form<'a>>
     ensures { FormRule (map (λ word. word.now) words.now) result }
 {
     match words {
@@ -37,6 +42,25 @@ pub fn form_of<'a>(words: &[&'a str]) -> Option<Form<'a>>
         },
         [word] if *word == "--help" => Some(Form::Help),
         [word] if *word == "--version" => Some(Form::Version),
+        _ => session_of(words),
+    }
+}
+
+/// The form of words that ask for a session of a client, if they do.
+fn session_of<'a>(words: &'a [&'a str]) -> Option<Form<'a>>
+    ensures { SessionRule (map (λ word. word.now) words.now) result }
+{
+    match words {
+        [verb, name, asked @ ..] if *verb == "nbd" && are_faults(asked) => {
+            Some(Form::Nbd(*name, asked))
+        }
         _ => None,
     }
+}
+
+/// Whether each of the words reads as a fault.
+fn are_faults(words: &[&str]) -> bool
+    ensures { result ≡ list_all (λ word. is_some (fault_word word.now)) words.now }
+{
+    words.iter().all(|word| parse_fault(word.as_bytes()).is_some())
 }

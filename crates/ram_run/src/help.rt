@@ -21,6 +21,10 @@ pub const HELP: &[u8] = b"ram_drive: a DVD-RAM drive that hides dead blocks, ove
                          lost
   ram_drive check IMAGE  compare such a text, on standard input, with this
                          image: print yes, or no and the first line that differs
+  ram_drive nbd IMAGE [FAULT]...
+                         serve the disc to a client of the NBD protocol, on
+                         standard input and output; each FAULT is a word such as
+                         'fail 40', 'wear 40 2' or 'cut 9 torn', as below
   ram_drive --help       print this text
   ram_drive --version    print the version
 
@@ -57,7 +61,8 @@ NOTIFICATION. A new disc has to be formatted before it has sectors, like this:
   cdb 041100000000 hex 000000080000013000000800
 
 The exit status: 0 done, 1 a check said no, 2 other words than these, 3 a line
-is not in the script language, or it or the script is too long, 4 the image
-failed, 5 the script could not be read, 6 the report could not be written, 7 no
-memory, 8 a disc is needed: there is none
+is not in the script language, or it or the script is too long, or a client does
+not keep to the protocol, or a FAULT is refused, 4 the image failed, 5 the input
+could not be read, 6 the output could not be written, 7 no memory, 8 a disc is
+needed: there is none
 ";

@@ -1,6 +1,10 @@
 //! The rooms of a run: all the memory that it takes, before it asks for anything else.
 ghost use Rattle.std.specs.Prelude.{◌≡◌, ◌+◌, ◌≤◌, IfOk, IsOk, map};
-ghost use Rattle.ram_run.specs.Rooms.{AreOfScript, AreOfNumber, AreOfCertificate, AreRoomsFor, NeedNoRooms};
+ghost use Rattle.model_geometry.specs.declared.kinds.LayoutKind.TheVariants.{OneGroup};
+ghost use Rattle.ram_run.specs.Words.{IsNbd};
+ghost use Rattle.ram_run.specs.Rooms.{AreOfScript, AreOfNumber, AreOfCertificate, AreOfSession, AreRoomsFor, NeedNoRooms};
+ghost use Rattle.ram_serve.specs.Rooms.{AreReadyToServe};
+ghost use Rattle.ram_serve.specs.declared.rooms.TheConstants.{SESSION_MEMORY};
 ghost use Rattle.ram_certificate.specs.Rooms.{AreReadyToTell};
 ghost use Rattle.ram_certificate.specs.declared.rooms.TheConstants.{CERTIFICATE_MEMORY};
 ghost use Rattle.ram_summary.specs.Rooms.{AreReadyFor};
@@ -13,19 +17,21 @@ use crate::form::{Form, form_of};
 use ram_bytes::{Budget, MemoryRefused};
 use ram_certificate::{CERTIFICATE_MEMORY, CertificateRooms};
 use ram_script::ScriptRooms;
+use ram_serve::{SESSION_MEMORY, SessionRooms};
 use ram_summary::{GENERATE_MEMORY, GenerateRooms};
 use ram_zones::LayoutKind;
 
 /// How many bytes the rooms ask for at most, whatever the words.
-pub const MOST_BYTES: usize = GENERATE_MEMORY;
+pub const MOST_BYTES: usize = SESSION_MEMORY;
 
 /// How many bytes the rooms ask for: those for the lines of a script, those for one that is drawn from a number, those for a
-/// certificate, and any.
+/// certificate, those for a session of a client, and any.
 pub fn limits_of_rooms_are_these()
     ensures script { SCRIPT_MEMORY ≡ 7011716 }
     ensures generate { GENERATE_MEMORY ≡ 7080517 }
     ensures certificate { CERTIFICATE_MEMORY ≡ 3138783 }
-    ensures most { MOST_BYTES ≡ 7080517 }
+    ensures session { SESSION_MEMORY ≡ 38263978 }
+    ensures most { MOST_BYTES ≡ 38263978 }
 {}
 
 /// The rooms that the words of the program ask for.
@@ -39,6 +45,8 @@ pub enum Rooms {
     Generate(GenerateRooms),
     /// Those for a certificate.
     Certificate(CertificateRooms),
+    /// Those for a session of a client.
+    Session(SessionRooms),
 }
 
 impl Rooms {
@@ -47,12 +55,14 @@ impl Rooms {
     /// # Answers
     ///
     /// - `Ok`: the rooms that the words ask for. (`AreRoomsFor`)
-    /// - `Script`, `Generate`, `Certificate`, `None`: those for the lines of a script, those for a script from a number, those
-    ///   for a certificate, or none. (`AreOfScript`, `AreOfNumber`, `AreOfCertificate`)
+    /// - `Script`, `Generate`, `Certificate`, `Session`, `None`: those for the lines of a script, those for a script from a number,
+    ///   those for a certificate, those for a session of a client, or none. (`AreOfScript`, `AreOfNumber`, `AreOfCertificate`,
+    ///   `AreOfSession`)
     /// - `Err`: the system refused memory that was asked for within the budget. (clause)
     pub fn new(budget: &mut Budget, words: &[&str]) -> Result<Rooms, MemoryRefused>
         requires free { MOST_BYTES ≤ budget.old }
         ensures left { budget.old ≤ budget.new + MOST_BYTES }
+        ensures fewer { ¬ IsNbd (map (λ word. word.now) words.now) → budget.old ≤ budget.new + GENERATE_MEMORY }
         ensures none { NeedNoRooms (map (λ word. word.now) words.now)
             → (budget.new ≡ budget.old) × IsOk result }
         ensures rooms { IfOk result (AreRoomsFor (map (λ word. word.now) words.now)) }
@@ -62,6 +72,9 @@ impl Rooms {
             Some(Form::Generate(_, _)) => Ok(Rooms::Generate(GenerateRooms::new(budget)?)),
             Some(Form::Audit(_)) => Ok(Rooms::Certificate(CertificateRooms::new(budget)?)),
             Some(Form::Check(_)) => Ok(Rooms::Certificate(CertificateRooms::new(budget)?)),
+            Some(Form::Nbd(_, _)) => {
+                Ok(Rooms::Session(SessionRooms::new(budget, LayoutKind::OneGroup)?))
+            }
             Some(Form::Help | Form::Version) | None => Ok(Rooms::None),
         }
     }
@@ -74,7 +87,9 @@ pub fn of_script(rooms: Rooms, kind: LayoutKind) -> ScriptRooms
 {
     match rooms {
         Rooms::Script(rooms) => rooms,
-        Rooms::None | Rooms::Generate(_) | Rooms::Certificate(_) => unreachable!(),
+        Rooms::None | Rooms::Generate(_) | Rooms::Certificate(_) | Rooms::Session(_) => {
+            unreachable!()
+        },
     }
 }
 
@@ -85,7 +100,9 @@ pub fn of_number(rooms: Rooms) -> GenerateRooms
 {
     match rooms {
         Rooms::Generate(rooms) => rooms,
-        Rooms::None | Rooms::Script(_) | Rooms::Certificate(_) => unreachable!(),
+        Rooms::None | Rooms::Script(_) | Rooms::Certificate(_) | Rooms::Session(_) => {
+            unreachable!()
+        },
     }
 }
 
@@ -96,6 +113,19 @@ pub fn of_certificate(rooms: Rooms) -> CertificateRooms
 {
     match rooms {
         Rooms::Certificate(rooms) => rooms,
-        Rooms::None | Rooms::Script(_) | Rooms::Generate(_) => unreachable!(),
+        Rooms::None | Rooms::Script(_) | Rooms::Generate(_) | Rooms::Session(_) => unreachable!(),
+    }
+}
+
+/// The rooms for a session of a client.
+pub fn of_session(rooms: Rooms) -> SessionRooms
+    requires { AreOfSession rooms }
+    ensures { AreReadyToServe OneGroup result }
+{
+    match rooms {
+        Rooms::Session(rooms) => rooms,
+        Rooms::None | Rooms::Script(_) | Rooms::Generate(_) | Rooms::Certificate(_) => {
+            unreachable!()
+        }
     }
 }

@@ -14,9 +14,10 @@ ghost use Rattle.ram_run.specs.Promises.{Promises};
 
 use crate::form::{Form, form_of};
 use crate::help::{HELP, VERSION};
-use crate::rooms::{Rooms, of_certificate, of_number, of_script};
+use crate::rooms::{Rooms, of_certificate, of_number, of_script, of_session};
 use ram_cache::Cached;
 use ram_certificate::{audit_image, check_image};
+use ram_client::serve_image;
 use ram_image::ImageMedium;
 use ram_machine::status::Status;
 use ram_outside::{Conversation, Opened, Opener};
@@ -29,8 +30,8 @@ use ram_volume::Volume;
 /// Runs the words of the program: `run IMAGE` answers the script over the image of that name, and reports every answer; `groups IMAGE`
 /// does the same for discs with a group of spares in each zone; `generate IMAGE N` answers the script that is drawn from the number N,
 /// and tells how often each answer came; `audit IMAGE` tells what an image holds, and `check IMAGE` compares such a text with it;
-/// `--help` and `--version` tell of the program. The rooms are those that the words ask for; no
-/// more memory is taken.
+/// `nbd IMAGE [FAULT]...` serves the disc in the image to a client of the NBD protocol; `--help` and `--version` tell of the program. The
+/// rooms are those that the words ask for; no more memory is taken.
 ///
 /// # Answers
 ///
@@ -68,6 +69,12 @@ use ram_volume::Volume;
 /// differs. `NotADisc`: as for `audit`. `SinkFault`: a beginning of one of these is written. `ImageFault`, `SourceFault`: nothing is
 /// written.
 ///
+/// Of `nbd IMAGE [FAULT]...` (`ServesClient`). The source is what the client sends, and the sink what it is told. `Done`: the client left, or
+/// what it sends ended behind a message. `Script`: the drive refused a fault that the words ask for, and no client was greeted; or what
+/// the client sent is none of the protocol's messages, or has no answer. `ImageFault`: nothing was opened; or the image failed before the
+/// greeting, or in a request, which has no reply. `SourceFault`: each whole message that came was answered. `SinkFault`: all answers but
+/// the newest are written. `Differs`, `Usage`, `NoMemory`, `NotADisc` never come.
+///
 /// Of `--help` and `--version` (`TellsText`). `Done`: the text is written. `SinkFault`: a beginning of it is. Nothing is opened or
 /// read.
 pub fn run<T: Conversation, O: Opener>(
@@ -94,6 +101,9 @@ pub fn run<T: Conversation, O: Opener>(
             audit_image(of_certificate(rooms), name, talk.report_mut(), opener)
         }
         Some(Form::Check(name)) => check_image(of_certificate(rooms), name, talk, opener),
+        Some(Form::Nbd(name, faults)) => {
+            serve_image(of_session(rooms), name, faults, talk, opener)
+        }
         Some(Form::Help) => {
             drop(rooms);
             write_text(talk.report_mut(), HELP)

@@ -1,13 +1,13 @@
 use Rattle.std.specs.Borrow.{Bor}
-use Rattle.std.proofs.Common.{◌≡◌, refl, sym, ◌∙◌, inl, inr, ℕ, List, map}
-use Rattle.model_geometry.specs.declared.kinds.LayoutKind.{LayoutKind}
+use Rattle.std.proofs.Common.{refl, sym, ◌∙◌, inl, inr, ℕ, List, map}
 use Rattle.ram_script.specs.Around.{IsNotOpened, around}
 use Rattle.ram_script.specs.Opened.{aftermath_of}
 use Rattle.ram_script.proofs.Completes.{completes}
 use Rattle.ram_summary.specs.Generating.{beside}
 use Rattle.ram_machine.specs.declared.status.Status.TheVariants as statuses
-use Rattle.ram_run.specs.Words.{IsServedOf, IsGenerateOf, IsAuditOf, IsCheckOf, IsHelp, IsVersion}
-use Rattle.ram_run.proofs.Promised.{text_counts, of_none, of_help, of_version, of_script, of_drawn, of_audit, of_check}
+use Rattle.ram_client.proofs.Statuses.{session_of_run, session_counts}
+use Rattle.ram_run.specs.Words.{IsServedOf, IsGenerateOf, IsAuditOf, IsCheckOf, AsksForSession, IsHelp, IsVersion}
+use Rattle.ram_run.proofs.Promised.{text_counts, of_none, of_help, of_version, of_script, of_drawn, of_audit, of_check, of_client}
 use Rattle.ram_run.proofs.PromisedByRun.{promised_by_run}
 use Rattle.ram_run.proofs.Heard.{heard_of, around_with, promised_around}
 use Rattle.ram_run.proofs.run.run.Goals as goal
@@ -155,3 +155,32 @@ returns-in-None g c =
     let before = around g.T.Conversation g.T.Sink.Sink g.O.Opener c.args.talk.now c.args.opener.now in
     let none = rw c.in-None.is at c.form_of.ensures in
     record { keeps = of_none g.O.Image.Image.bytes g.O.Image.Image.past g.O.Opener.returned_known before before statuses.Usage texts refl none refl }
+
+pub of_session-requires : goal.of_session-requires
+of_session-requires g c =
+    let texts : List (List ℕ) = map (λ (word : Bor (List ℕ)). word.now) c.args.words.now in
+    let told : AsksForSession c.in-Some-Nbd.name.now (map (λ (word : Bor (List ℕ)). word.now) c.in-Some-Nbd.faults.now) texts =
+    rw (c.in-Some-Nbd.is, c.in-Some-Nbd.field-0-is) at c.form_of.ensures in
+    c.requires.rooms.session (c.in-Some-Nbd.name.now, told.faults, (_, told.words_are, told.read))
+
+pub serve_image-requires : goal.serve_image-requires
+serve_image-requires g c =
+    let texts : List (List ℕ) = map (λ (word : Bor (List ℕ)). word.now) c.args.words.now in
+    let told : AsksForSession c.in-Some-Nbd.name.now (map (λ (word : Bor (List ℕ)). word.now) c.in-Some-Nbd.faults.now) texts =
+    rw (c.in-Some-Nbd.is, c.in-Some-Nbd.field-0-is) at c.form_of.ensures in
+    record { ready = c.of_session.ensures; reads = (told.faults, told.read) }
+
+pub returns-in-Some-Nbd : goal.returns-in-Some-Nbd
+returns-in-Some-Nbd g c =
+    let texts : List (List ℕ) = map (λ (word : Bor (List ℕ)). word.now) c.args.words.now in
+    let told : AsksForSession c.in-Some-Nbd.name.now (map (λ (word : Bor (List ℕ)). word.now) c.in-Some-Nbd.faults.now) texts =
+    rw (c.in-Some-Nbd.is, c.in-Some-Nbd.field-0-is) at c.form_of.ensures in
+    let before = around g.T.Conversation g.T.Sink.Sink g.O.Opener c.args.talk.now c.args.opener.now in
+    let after = around g.T.Conversation g.T.Sink.Sink g.O.Opener c.serve_image.new.talk c.serve_image.new.opener in
+    let ran = c.serve_image.ensures in
+    record {
+      keeps = of_client g.O.Image.Image.bytes g.O.Image.Image.past g.O.Opener.returned_known before after c.serve_image.result texts
+          (session_of_run c.serve_image.result ran.other)
+          (session_counts before.counts after.counts c.serve_image.result (ran.keeps told.faults told.read).counts)
+          c.in-Some-Nbd.name.now _ told ran.keeps;
+    }
