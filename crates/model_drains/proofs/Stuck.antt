@@ -253,10 +253,10 @@ module _ (old mid : CacheShown) (i : ℕ) (flush : Flushes old mid i) (sound : I
   ended_flush j (inl left) = elim (cases_eq j i) [
     | inl same ↦ subst (IsEnded mid) (sym same) flushed_ended
     | inr ne ↦ inl (record {
-        on_disc = subst (λ (c : ℕ). j < c) (sym (flush_counts old mid i flush sound)) left.on_disc;
-        gone = λ waits. left.gone (other_was i old.pending j (subst (λ (l : List (ℕ × List ℕ)). IsPending l j) flush.left waits));
-        whole = subst IsGood (sym (flush_leaves old mid i flush sound j left.on_disc ne)) left.whole;
-      })
+      on_disc = subst (λ (c : ℕ). j < c) (sym (flush_counts old mid i flush sound)) left.on_disc;
+      gone = λ waits. left.gone (other_was i old.pending j (subst (λ (l : List (ℕ × List ℕ)). IsPending l j) flush.left waits));
+      whole = subst IsGood (sym (flush_leaves old mid i flush sound j left.on_disc ne)) left.whole;
+    })
   ]
   ended_flush j (inr (waits, stuck)) =
       let later = stuck_flush old mid i flush sound known j stuck in

@@ -62,5 +62,7 @@ fn session_of<'a>(words: &'a [&'a str]) -> Option<Form<'a>>
 fn are_faults(words: &[&str]) -> bool
     ensures { result ≡ list_all (λ word. is_some (fault_word word.now)) words.now }
 {
-    words.iter().all(|word| parse_fault(word.as_bytes()).is_some())
+    words
+        .iter()
+        .all(|word| parse_fault(word.as_bytes()).is_some())
 }
