@@ -128,7 +128,7 @@ pub const WRITE_ZEROES: u16 = 6;
 /// The most bytes that a read or a write moves.
 pub const MOST_BYTES: u32 = 33_554_432;
 
-/// The most bytes of data that an option may have. Longer data are read over.
+/// The most bytes of data that an option may have. Longer data are skipped.
 pub const OPTION_LIMIT: u32 = 8_192;
 
 /// The transmission flags of the export: HAS_FLAGS, SEND_FLUSH, SEND_FUA, ROTATIONAL and SEND_WRITE_ZEROES.

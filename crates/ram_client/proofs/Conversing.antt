@@ -18,7 +18,7 @@ use Rattle.ram_session.specs.Talk.{Transmission}
 use Rattle.ram_session.specs.Session.{TalkEnds, SessionStands, SessionCounts}
 use Rattle.ram_opening.specs.declared.opening.Export.{Export}
 use Rattle.ram_opening.specs.Exports.{export_size, export_reason}
-use Rattle.ram_opening.specs.Opens.{LiesWhereServed, IsOpenedAs, OpenRule, OpeningCount}
+use Rattle.ram_opening.specs.Opens.{LiesWhereServed, IsOpenedAs, SessionOpenRule, OpeningCount}
 use Rattle.ram_serve.specs.Turns.{BetweenRequests}
 use Rattle.ram_serve.specs.Handshakes.{IsState, IsToBeGreeted, InHandshake}
 use Rattle.ram_serve.proofs.Counted.{turn_then}
@@ -45,7 +45,7 @@ session_then a b c same status counts = turn_then a b c same {X = Unit {0}} (Err
 
 module _ (first : Beginning) (faults : List Line) (stands : State → Type 0) (left written : Option (List ℕ)) where
   -- before a client was greeted
-  pub ends_ungreeted : IsBeforeTalk first left written → (status : Status) → OpenRule first faults stands (Err status)
+  pub ends_ungreeted : IsBeforeTalk first left written → (status : Status) → SessionOpenRule first faults stands (Err status)
       → SessionEnds first faults stands left written status
   ends_ungreeted before statuses.Script ends = inl (ends, before)
   ends_ungreeted before statuses.ImageFault ends = inl (ends, before)

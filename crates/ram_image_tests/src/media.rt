@@ -28,7 +28,7 @@ fn take_all<M: MediumControl>(
     Ok(answers)
 }
 
-/// Takes a new medium in memory of so many blocks through steps. Its uses of these numbers fail.
+/// Takes a new medium in memory of this many blocks through steps. Its uses of these numbers fail.
 pub fn in_memory(
     alloc: Global,
     blocks: u32,

@@ -42,6 +42,7 @@ pub mod SectorRuns
 pub mod SectorOpened
 pub mod SectorAgain
 pub mod ToldTurns
+pub mod Registers
 pub mod SectorSettled
 pub mod SectorNothing
 pub mod Syncing

@@ -89,7 +89,7 @@ pub fn parse_option_head(bytes: &[u8]) -> Option<OptionHead>
     })
 }
 
-/// Puts bytes behind the reply.
+/// Appends bytes to the reply.
 fn put(reply: &mut Vec<u8>, bytes: &[u8])
     requires room { length reply.old.items + length bytes.now ≤ vec_capacity reply.old }
     ensures bytes { reply.new.items ≡ reply.old.items ++ bytes.now }
@@ -114,7 +114,7 @@ fn option_head(number: u32, kind: u32, length: u32) -> [u8; 20]
     ]
 }
 
-/// Puts a reply to an option behind others: the option's number, the type of the reply, and its data.
+/// Appends a reply to an option to others: the option's number, the type of the reply, and its data.
 fn put_reply(reply: &mut Vec<u8>, number: u32, kind: u32, payload: &[u8])
     requires short { length payload.now ≤ 114 }
     requires room { length reply.old.items + 20 + length payload.now ≤ vec_capacity reply.old }
@@ -144,7 +144,7 @@ fn block_sizes() -> [u8; 14]
     [0, 3, 0, 0, 8, 0, 0, 0, 0x80, 0, a, b, c, d]
 }
 
-/// Puts what a client is told of the disc behind others.
+/// Appends what a client is told of the disc to other bytes.
 fn put_info(reply: &mut Vec<u8>, number: u32, size: u64)
     requires room { length reply.old.items + 86 ≤ vec_capacity reply.old }
     ensures bytes { reply.new.items ≡ reply.old.items ++ export_info number size }
@@ -259,7 +259,7 @@ fn answer_info(
     NextPhase::Options
 }
 
-/// Answers an option of the handshake whose data are longer than [`OPTION_LIMIT`](model_nbd::OPTION_LIMIT). They are read over.
+/// Answers an option of the handshake whose data are longer than [`OPTION_LIMIT`](model_nbd::OPTION_LIMIT). They are skipped.
 ///
 /// # Clauses
 ///

@@ -20,7 +20,7 @@ use Rattle.ram_opening.specs.declared.opening.Export.{Export}
 use Rattle.ram_opening.specs.declared.opening.Export.TheVariants as exports
 use Rattle.ram_opening.specs.Faults.{ReadsAsFault, ReadAsFaults}
 use Rattle.ram_opening.specs.Exports.{export_size, told_export}
-use Rattle.ram_opening.specs.Opens.{is_disc, OpeningLineDone, OpeningLineRule, IsNothingYet, IsServedSo, OpenedTo, OpensOn, LiesWhereServed, IsOpenedAs, OpenRule}
+use Rattle.ram_opening.specs.Opens.{is_disc, OpeningLineDone, OpeningLineRule, IsNothingYet, IsServedSo, OpenedTo, OpensOn, LiesWhereServed, IsOpenedAs, SessionOpenRule}
 
 -- what is served after the power, and after each line behind it
 pub served_first : (export : Told) (reply : Reply) (step : AnsweredStep) (steps : List AnsweredStep) → export ≡ served_after reply → step.reply ≡ reply
@@ -131,7 +131,7 @@ module _ (first : Beginning) (faults : List Line) (stands : State → Type 0) wh
   ended_so serves serves' rest others statuses.NoMemory ends = ends
   ended_so serves serves' rest others statuses.NotADisc ends = ends
 
-  pub open_ended : {X : Type 0} (serves : X → Told) (rest : List Given) (status : Status) → OpensOn first faults serves stands rest (Err status) → OpenRule first faults stands (Err status)
+  pub open_ended : {X : Type 0} (serves : X → Told) (rest : List Given) (status : Status) → OpensOn first faults serves stands rest (Err status) → SessionOpenRule first faults stands (Err status)
   open_ended serves rest statuses.ImageFault ends = ends
   open_ended serves rest statuses.Script ends = ends
   open_ended serves rest statuses.Done ends = ends
@@ -144,7 +144,7 @@ module _ (first : Beginning) (faults : List Line) (stands : State → Type 0) wh
 
   -- there is no disc
   pub no_disc : (start : State) → IsFirst first.image start → kind_of start ≡ first.kind → stands start → false ≡ is_disc start
-      → OpenRule first faults stands (Ok exports.NoDisc)
+      → SessionOpenRule first faults stands (Ok exports.NoDisc)
   no_disc (Unopened image) starts kind_is stood is = record {
     opened = record {
       start = Unopened image;

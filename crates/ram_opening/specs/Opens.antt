@@ -108,8 +108,8 @@ pub record IsOpenedAs (first : Beginning) (faults : List Line) (stands : State �
   pub stands_ready : stands opened.ready
 
 -- What opening a session may do, by its answer.
-abbrev pub OpenRule : Beginning → (faults : List Line) → (stands : State → Type 0) → Result Export Status → Type 0
-OpenRule first faults stands (Ok export) = IsOpenedAs first faults stands export
-OpenRule first faults stands (Err statuses.Script) = EndsAtFault first faults stands
-OpenRule first faults stands (Err statuses.ImageFault) = EndsInOpening first faults stands
-OpenRule first faults stands (Err status) = ⊥
+abbrev pub SessionOpenRule : Beginning → (faults : List Line) → (stands : State → Type 0) → Result Export Status → Type 0
+SessionOpenRule first faults stands (Ok export) = IsOpenedAs first faults stands export
+SessionOpenRule first faults stands (Err statuses.Script) = EndsAtFault first faults stands
+SessionOpenRule first faults stands (Err statuses.ImageFault) = EndsInOpening first faults stands
+SessionOpenRule first faults stands (Err status) = ⊥

@@ -14,7 +14,7 @@ ghost use Rattle.ram_script.specs.Progress.{Beginning};
 ghost use Rattle.ram_session.specs.Opening.{Given, without_data, cache_on_cdb, cache_on_page, RefusesFault, served_after};
 ghost use Rattle.ram_opening.specs.Faults.{ReadsAsFault, ReadAsFaults};
 ghost use Rattle.ram_opening.specs.Exports.{export_size, export_reason, told_export, FitsSectors};
-ghost use Rattle.ram_opening.specs.Opens.{is_disc, IsOpeningLine, OpeningCount, OpeningLineRule, OpenedTo, IsNothingYet, IsServedSo, OpensOn, OpenRule};
+ghost use Rattle.ram_opening.specs.Opens.{is_disc, IsOpeningLine, OpeningCount, OpeningLineRule, OpenedTo, IsNothingYet, IsServedSo, OpensOn, SessionOpenRule};
 
 use ram_bytes::Cdb;
 use ram_machine::status::Status;
@@ -26,7 +26,7 @@ use ram_text::{Line, parse_fault};
 /// What a client is served.
 #[derive(Clone, Copy, Debug, PartialEq, Eq)]
 pub enum Export {
-    /// A disc of so many bytes.
+    /// A disc of this many bytes.
     Disc(u64),
     /// Nothing: the image holds no disc.
     NoDisc,
@@ -76,7 +76,7 @@ impl Export {
 ///
 /// # Clauses
 ///
-/// - `rule` (`OpenRule`): of the faults that the words read as, from each state that a session may begin in: all lines of the opening were
+/// - `rule` (`SessionOpenRule`): of the faults that the words read as, from each state that a session may begin in: all lines of the opening were
 ///   done, and what is served then; or how the session ends.
 /// - `small` (`FitsSectors`): a disc that is served has fewer than 2^32 sectors.
 /// - `count` (`OpeningCount`): the image's count rose exactly where the image failed.
@@ -84,13 +84,13 @@ impl Export {
 ///
 /// # Answers
 ///
-/// - `Ok`: the session is opened. (`OpenRule`)
+/// - `Ok`: the session is opened. (`SessionOpenRule`)
 /// - `Disc`, `NotFormatted`, `Off`: by what the power was answered. (`served_after`)
 /// - `NoDisc`: the image holds no disc. (`export_after`)
-/// - `Err`: the session ends before a client is greeted. (`OpenRule`)
+/// - `Err`: the session ends before a client is greeted. (`SessionOpenRule`)
 /// - `Script`: a fault was refused: there is no such block, or no room for one more. (`EndsAtFault`)
 /// - `ImageFault`: the image failed in a line. (`EndsInOpening`)
-/// - `Done`, `Differs`, `Usage`, `SourceFault`, `SinkFault`, `NoMemory`, `NotADisc`: never. (`OpenRule`)
+/// - `Done`, `Differs`, `Usage`, `SourceFault`, `SinkFault`, `NoMemory`, `NotADisc`: never. (`SessionOpenRule`)
 pub fn open_session<D: Drive>(
     inserted: &mut Inserted<D>,
     words: &[&str],
@@ -98,10 +98,11 @@ pub fn open_session<D: Drive>(
 ) -> Result<Export, Status>
     requires reads { ReadAsFaults (map (λ word. word.now) words.now) }
     requires room { PAYLOAD_ROOM ≤ vec_capacity data_in.old }
-    ensures rule { (first : Beginning) (faults : List Asked) → AreFaultWords (map (λ word. word.now) words.now) faults
+    ensures rule { (first : Beginning) (faults : List Asked)
+        → AreFaultWords (map (λ word. word.now) words.now) faults
         → (start : State) → IsFirst first.image start → kind_of start ≡ first.kind
         → Stands D.Caching D.lies_in D.Image.Image inserted.old start
-        → OpenRule first faults (Stands D.Caching D.lies_in D.Image.Image inserted.new) result }
+        → SessionOpenRule first faults (Stands D.Caching D.lies_in D.Image.Image inserted.new) result }
     ensures small { IfOk result FitsSectors }
     ensures count { OpeningCount (faults_of D.Caching D.Image.Image inserted.old)
         (faults_of D.Caching D.Image.Image inserted.new) result }
@@ -159,7 +160,8 @@ fn prepare<D: Drive>(inserted: &mut Inserted<D>, data_in: &mut Vec<u8>) -> Resul
         → OpenedTo first faults (IsServedSo export) (Stands D.Caching D.lies_in D.Image.Image inserted.old)
         (without_data (lines.Command (replicate 6 0))
         ∷ record { line = lines.Command cache_on_cdb; payload = cache_on_page } ∷ rest)
-        → OpensOn first faults (λ done. export) (Stands D.Caching D.lies_in D.Image.Image inserted.new) rest result }
+        → OpensOn first faults (λ done. export) (Stands D.Caching D.lies_in D.Image.Image inserted.new) rest
+        result }
     ensures count { OpeningCount (faults_of D.Caching D.Image.Image inserted.old)
         (faults_of D.Caching D.Image.Image inserted.new) result }
     ensures room { vec_capacity data_in.old ≤ vec_capacity data_in.new }
@@ -209,7 +211,8 @@ fn do_command<D: Drive>(
     ensures rule { (first : Beginning) (faults : List Asked) (export : Told) (rest : List Given)
         → OpenedTo first faults (IsServedSo export) (Stands D.Caching D.lies_in D.Image.Image inserted.old)
         (record { line = lines.Command cdb; payload = payload.now } ∷ rest)
-        → OpensOn first faults (λ done. export) (Stands D.Caching D.lies_in D.Image.Image inserted.new) rest result }
+        → OpensOn first faults (λ done. export) (Stands D.Caching D.lies_in D.Image.Image inserted.new) rest
+        result }
     ensures count { OpeningCount (faults_of D.Caching D.Image.Image inserted.old)
         (faults_of D.Caching D.Image.Image inserted.new) result }
     ensures room { vec_capacity data_in.old ≤ vec_capacity data_in.new }
@@ -228,11 +231,13 @@ fn make_faults<D: Drive>(
 ) -> Result<(), Status>
     requires reads { ReadAsFaults (map (λ word. word.now) words.now) }
     requires room { PAYLOAD_ROOM ≤ vec_capacity data_in.old }
-    ensures rule { (first : Beginning) (faults : List Asked) → AreFaultWords (map (λ word. word.now) words.now) faults
+    ensures rule { (first : Beginning) (faults : List Asked)
+        → AreFaultWords (map (λ word. word.now) words.now) faults
         → (export : Told)
         → OpenedTo first faults (IsServedSo export) (Stands D.Caching D.lies_in D.Image.Image inserted.old)
         (map without_data faults)
-        → OpensOn first faults (λ done. export) (Stands D.Caching D.lies_in D.Image.Image inserted.new) [] result }
+        → OpensOn first faults (λ done. export) (Stands D.Caching D.lies_in D.Image.Image inserted.new) []
+        result }
     ensures count { OpeningCount (faults_of D.Caching D.Image.Image inserted.old)
         (faults_of D.Caching D.Image.Image inserted.new) result }
     ensures room { vec_capacity data_in.old ≤ vec_capacity data_in.new }
@@ -258,7 +263,8 @@ fn make_fault<D: Drive>(
         → IsFaultWord word.now fault
         → OpenedTo first faults (IsServedSo export) (Stands D.Caching D.lies_in D.Image.Image inserted.old)
         (without_data fault ∷ rest)
-        → OpensOn first faults (λ done. export) (Stands D.Caching D.lies_in D.Image.Image inserted.new) rest result }
+        → OpensOn first faults (λ done. export) (Stands D.Caching D.lies_in D.Image.Image inserted.new) rest
+        result }
     ensures count { OpeningCount (faults_of D.Caching D.Image.Image inserted.old)
         (faults_of D.Caching D.Image.Image inserted.new) result }
     ensures room { vec_capacity data_in.old ≤ vec_capacity data_in.new }

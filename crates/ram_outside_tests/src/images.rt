@@ -14,7 +14,7 @@ fn add_moved(image: &MemImage, moved: Moved, answer: &mut String) -> Result<(), 
     Ok(())
 }
 
-/// Adds what is read from a place on, where so many bytes lie inside the image.
+/// Adds what is read from a place on, where this many bytes lie inside the image.
 fn add_read(
     image: &mut MemImage,
     at: u64,
@@ -70,7 +70,7 @@ fn add_sync(image: &mut MemImage, answer: &mut String) -> Result<(), AllocError>
     add_moved(image, moved, answer)
 }
 
-/// Makes room for so many bytes, and adds how that went.
+/// Makes room for this many bytes, and adds how that went.
 fn add_reserve(image: &mut MemImage, len: u64, answer: &mut String) -> Result<(), AllocError> {
     let reserved = image.reserve(len as usize);
     write!(answer, "{reserved:?}")

@@ -63,7 +63,7 @@ fn bytes_of(alloc: Global, text: &str) -> Result<Vec<u8>, AllocError> {
     Ok(bytes)
 }
 
-/// `GIVEN TAKEN TEXT`: the text goes from a source that gives so many bytes at once into a sink that takes so many.
+/// `GIVEN TAKEN TEXT`: the text goes from a source that gives this many bytes at once into a sink that takes as many.
 pub fn answer_copy(alloc: Global, words: &str, answer: &mut String) -> Result<(), AllocError> {
     let (given, words) = words.split_once(' ').unwrap_or((words, ""));
     let (taken, text) = words.split_once(' ').unwrap_or((words, ""));

@@ -1,6 +1,6 @@
-//! Bytes from a conversation: as many as are wanted, and none ahead.
+//! Bytes from a conversation: as many as are wanted, and no more.
 //!
-//! Whoever speaks a protocol of messages knows how many bytes it needs next. Nothing is read beyond these, so nothing is kept between two
+//! A protocol of messages knows how many bytes it needs next. Nothing is read beyond these, so nothing is kept between two
 //! messages, and nothing is lost where a session ends.
 #![tactic(auto)]
 

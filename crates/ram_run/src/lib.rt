@@ -21,8 +21,8 @@
 //!
 //! # Below `run`
 //!
-//! - `Rooms::new`: It asks for at most `MOST_BYTES`, 38,263,978, of a budget that has as many (`left`), and for at most 7,080,517
-//!   where the words do not ask for a session of a client (`fewer`). It gives the rooms that the words ask for (`AreRoomsFor`). Words
+//! - `Rooms::new`: It asks for at most `MOST_BYTES`, 38,263,978 (`left`), and for at most 7,080,517 where the words do not ask for a
+//!   session of a client (`fewer`), of a budget that has as many. It gives the rooms that the words ask for (`AreRoomsFor`). Words
 //!   that need none ask for nothing, and are not refused (`none`). A refusal is the system's, by its type.
 //! - `limits_of_rooms_are_these`: Those for the lines of a script ask for 7,011,716 bytes, those for a script from a number for
 //!   7,080,517, those for a certificate for 3,138,783, those for a session of a client for 38,263,978.

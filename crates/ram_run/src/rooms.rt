@@ -60,7 +60,8 @@ impl Rooms {
     ///   `AreOfSession`)
     /// - `Err`: the system refused memory that was asked for within the budget. (clause)
     pub fn new(budget: &mut Budget, words: &[&str]) -> Result<Rooms, MemoryRefused>
-        requires free { MOST_BYTES ≤ budget.old }
+        requires free { GENERATE_MEMORY ≤ budget.old }
+        requires client { IsNbd (map (λ word. word.now) words.now) → MOST_BYTES ≤ budget.old }
         ensures left { budget.old ≤ budget.new + MOST_BYTES }
         ensures fewer { ¬ IsNbd (map (λ word. word.now) words.now) → budget.old ≤ budget.new + GENERATE_MEMORY }
         ensures none { NeedNoRooms (map (λ word. word.now) words.now)

@@ -78,7 +78,7 @@ fn change_run(row: &mut Row, words: &[&str]) {
     }
 }
 
-/// Adds a text to the script so many times, in which `\n`, `\r` and `\t` stand for what ends a line and for a tab.
+/// Adds a text to the script this many times, in which `\n`, `\r` and `\t` stand for what ends a line and for a tab.
 fn add_text(alloc: Global, row: &mut Row, times: usize, text: &str) -> Result<(), AllocError> {
     let text = text.replace(alloc, "\\n", "\n")?;
     let text = text.replace(alloc, "\\r", "\r")?;

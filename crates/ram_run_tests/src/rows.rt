@@ -26,7 +26,7 @@ pub enum Runs {
 /// What is told beside the report and the exit status.
 #[derive(Clone, Copy)]
 pub struct Told {
-    /// The report has so many lines at most, which are its last ones, or its first ones.
+    /// The report has this many lines at most, which are its last ones, or its first ones.
     pub last: Option<usize>,
     pub first: Option<usize>,
     /// How often the sink was called.

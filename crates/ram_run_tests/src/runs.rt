@@ -59,7 +59,7 @@ impl Ran {
     }
 }
 
-/// Runs a script over an image of these bytes. The source gives and the sink takes at most so many bytes at once.
+/// Runs a script over an image of these bytes. The source gives and the sink takes at most this many bytes at once.
 pub fn run_script(
     alloc: Global,
     script: &[u8],

@@ -5,7 +5,7 @@ use ram_machine::status::Status;
 use std::alloc::AllocError;
 use std::fmt::Write;
 
-/// Whether the source was asked once for each piece of a script of so many bytes, the report was put in pieces of that
+/// Whether the source was asked once for each piece of a script of this many bytes, the report was put in pieces of that
 /// size, and neither much oftener.
 fn took_few_calls(ran: &Ran, script_len: usize) -> bool {
     let takes = script_len.div_ceil(PIECE) as u64;
@@ -14,7 +14,7 @@ fn took_few_calls(ran: &Ran, script_len: usize) -> bool {
         && ran.calls.sink <= puts.saturating_add(ran.calls.source)
 }
 
-/// Whether a line of this number is told, of so many.
+/// Whether a line of this number is told, of this many.
 fn is_told(told: Told, number: usize, lines: usize) -> bool {
     let is_last = told
         .last

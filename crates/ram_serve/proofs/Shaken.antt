@@ -85,7 +85,7 @@ module _ (first : Beginning) (faults : List Line) (export : Export) (ready : Sta
       (record { nothing_done = refl; nothing_told = refl; next_is = refl }) (IsState ready) written' b.at.leaves_now
       (same ∙ append_nothing written)
   flags_taken left left' written written' f f' b same (Err status) none =
-      ends_untaken first faults export Greeted 0 (IsState ready) left left' written b f f' status written' same none
+      ends_untaken first faults export Greeted 0 (IsState ready) left left' written b tt f f' status written' same none
 
   -- an option came
   module _ (zeros : Bool) (n : ℕ) (left left' written written' : Option (List ℕ))

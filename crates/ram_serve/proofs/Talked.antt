@@ -59,32 +59,40 @@ module _ (first : Beginning) (faults : List Line) (export : Export) (phase : Pha
   rest_behind came went = behind left left' came b.far.rest (known_left left b.far.rest b.at.left_is) went
 
   -- no message came
-  pub ends_taking : (f f' : ℕ) (status : Status) → NoneCame left left' f f' phase status → TalkEnds first faults stands left' written status
-  ends_taking f f' statuses.Done rule =
+  pub ends_taking : AwaitsMessage phase → (f f' : ℕ) (status : Status) → NoneCame left left' f f' phase status
+      → TalkEnds first faults stands left' written status
+  ends_taking awaits f f' statuses.Done rule =
       let k = rest_behind [] rule.went in
       (b.far, record { ended = inr (k.rest_is ∙ at_end left' k.behind rule.ended k.left_is); at = at_behind [] k })
-  ends_taking f f' statuses.Script rule =
+  ends_taking awaits f f' statuses.Script rule =
       let k = rest_behind rule.came rule.went in
       let none : BeginsNoMessage b.far.phase b.far.rest =
       subst (λ (p : Phase). BeginsNoMessage p b.far.rest) (sym b.phase_is)
       (subst (λ (l : List ℕ). BeginsNoMessage phase l) (sym k.rest_is) (rule.none k.behind k.left_is)) in
-      (b.far, inr (inl (rule.came, rule.some, none, at_behind rule.came k)))
-  ends_taking f f' statuses.SourceFault rule =
+      (b.far, inr (inl (rule.came, rule.some, subst AwaitsMessage (sym b.phase_is) awaits, none, at_behind rule.came k)))
+  ends_taking awaits f f' statuses.SourceFault rule =
       let none : BeginsNoMessage b.far.phase rule.came =
-      subst (λ (p : Phase). BeginsNoMessage p rule.came) (sym b.phase_is) rule.none in
-      (b.far, record { came = rule.came; no_message = none; at = at_behind rule.came (rest_behind rule.came rule.went) })
-  ends_taking f f' statuses.Differs rule = absurd rule
-  ends_taking f f' statuses.Usage rule = absurd rule
-  ends_taking f f' statuses.ImageFault rule = absurd rule
-  ends_taking f f' statuses.SinkFault rule = absurd rule
-  ends_taking f f' statuses.NoMemory rule = absurd rule
-  ends_taking f f' statuses.NotADisc rule = absurd rule
+      subst (λ (p : Phase). BeginsNoMessage p rule.came) (sym b.phase_is) rule.none in (
+        b.far,
+        record {
+          awaits = subst AwaitsMessage (sym b.phase_is) awaits;
+          came = rule.came;
+          no_message = none;
+          at = at_behind rule.came (rest_behind rule.came rule.went);
+        },
+      )
+  ends_taking awaits f f' statuses.Differs rule = absurd rule
+  ends_taking awaits f f' statuses.Usage rule = absurd rule
+  ends_taking awaits f f' statuses.ImageFault rule = absurd rule
+  ends_taking awaits f f' statuses.SinkFault rule = absurd rule
+  ends_taking awaits f f' statuses.NoMemory rule = absurd rule
+  ends_taking awaits f f' statuses.NotADisc rule = absurd rule
 
   -- the same with a sink that is as it was
-  pub ends_untaken : (f f' : ℕ) (status : Status) (shown : Option (List ℕ)) → shown ≡ written → NoneCame left left' f f' phase status
-      → TalkEnds first faults stands left' shown status
-  ends_untaken f f' status shown same rule =
-      subst (λ (o : Option (List ℕ)). TalkEnds first faults stands left' o status) (sym same) (ends_taking f f' status rule)
+  pub ends_untaken : AwaitsMessage phase → (f f' : ℕ) (status : Status) (shown : Option (List ℕ)) → shown ≡ written
+      → NoneCame left left' f f' phase status → TalkEnds first faults stands left' shown status
+  ends_untaken awaits f f' status shown same rule =
+      subst (λ (o : Option (List ℕ)). TalkEnds first faults stands left' o status) (sym same) (ends_taking awaits f f' status rule)
 
   -- a message came
   module _ (message : Message) (went : Went left left' (message_bytes message)) (dids : List Did) (reply : List ℕ) (now : State) (next : Phase)
@@ -191,7 +199,7 @@ ends_where first faults stands stands' left written each status ends = by_status
 
     broken : (far : SessionSoFar first faults) → BreaksProtocol far stands left written → BreaksProtocol far stands' left written
     broken far (inl breaks) = inl (breaks.0, moved far [] breaks.1)
-    broken far (inr (inl breaks)) = inr (inl (breaks.0, breaks.1, breaks.2, moved far breaks.0 breaks.3))
+    broken far (inr (inl breaks)) = inr (inl (breaks.0, breaks.1, breaks.2, breaks.3, moved far breaks.0 breaks.4))
     broken far (inr (inr breaks)) = inr (inr (breaks.0, moved far [] breaks.1))
 
     by_status : (status : Status) → TalkEnds first faults stands left written status → TalkEnds first faults stands' left written status
@@ -199,7 +207,12 @@ ends_where first faults stands stands' left written each status ends = by_status
     by_status statuses.Script ends = (ends.0, broken ends.0 ends.1)
     by_status statuses.SourceFault ends = (
       ends.0,
-      record { came = ends.1.came; no_message = ends.1.no_message; at = moved ends.0 ends.1.came ends.1.at },
+      record {
+        awaits = ends.1.awaits;
+        came = ends.1.came;
+        no_message = ends.1.no_message;
+        at = moved ends.0 ends.1.came ends.1.at;
+      },
     )
     by_status statuses.SinkFault ends = (
       ends.0,

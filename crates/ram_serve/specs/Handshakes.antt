@@ -39,7 +39,7 @@ module _ (first : Beginning) (faults : List Line) (export : Export) (ready : Sta
 abbrev pub transmits : Unit {0} → Phase
 transmits done = Transmission
 
--- After an option requests follow only where there is a disc, of so many bytes.
+-- After an option requests follow only where there is a disc, of this many bytes.
 abbrev pub HasDiscFor : (size : Option ℕ) → NextPhase → Type 0
 HasDiscFor size phases.Transmission = IsSome size
 HasDiscFor size next = Unit {0}

@@ -113,7 +113,7 @@ module _ (left left' : Option (List ℕ)) (faults faults' : ℕ) where
   DataRule header operation room result = (payload : List ℕ)
       × MoreRule left left' faults faults' (data_after header) payload result × HoldsData operation payload room
 
-  -- A request to a disc of so many bytes came whole, and this is what it asks. The room does for its data.
+  -- A request to a disc of this many bytes came whole, and this is what it asks. The room does for its data.
   pub record RequestCame (size : ℕ) (room : List ℕ) (incoming : Incoming) : Type 0 where
     pub request : Request
     pub whole : IsRequest request

@@ -29,7 +29,7 @@ pub record BetweenMessages (first : Beginning) (faults : List Line) (export : Ex
   pub many : n ≤ length far.turns
   pub at : IsLeftAt far stands left written []
 
--- The same between two requests to a disc of so many bytes: the messages lead to a disc. (`stands` tells which states the drive stands for.)
+-- The same between two requests to a disc of this many bytes: the messages lead to a disc. (`stands` tells which states the drive stands for.)
 pub record BetweenRequests (first : Beginning) (faults : List Line) (size n : ℕ) (stands : State → Type 0)
     (left written : Option (List ℕ)) : Type 0 where
   pub between : BetweenMessages first faults (Serving size) Transmission n stands left written

@@ -88,7 +88,7 @@ fn take_header<T: Conversation>(talk: &mut T) -> Result<Header, Status>
     }
 }
 
-/// Takes the data that follow a header: those of a write go into the room, and are read over where it is refused.
+/// Takes the data that follow a header: those of a write go into the room, and are skipped where it is refused.
 fn take_data<T: Conversation>(
     talk: &mut T,
     header: Header,
@@ -111,7 +111,7 @@ fn take_data<T: Conversation>(
     }
 }
 
-/// Reads over the data that follow a header.
+/// Skips the data that follow a header.
 fn pass_data<T: Conversation>(
     talk: &mut T,
     header: Header,

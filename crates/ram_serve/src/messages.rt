@@ -44,7 +44,8 @@ pub fn tell<T: Conversation>(talk: &mut T, bytes: &[u8]) -> Result<(), Status>
 /// - `SourceFault`: the source counted a failure. (`FirstRule`)
 /// - `Differs`, `Usage`, `ImageFault`, `SinkFault`, `NoMemory`, `NotADisc`: never. (`FirstRule`)
 pub fn receive_first<T: Conversation>(talk: &mut T, into: &mut [u8]) -> Result<(), Status>
-    ensures rule { FirstRule (T.left talk.old) (T.left talk.new) (T.faults talk.old) (T.faults talk.new) into.new result }
+    ensures rule { FirstRule (T.left talk.old) (T.left talk.new) (T.faults talk.old) (T.faults talk.new)
+        into.new result }
     ensures length { length into.new ≡ length into.old }
     ensures same { T.report talk.new ≡ T.report talk.old }
     ensures asks { AsksOnly
@@ -69,7 +70,8 @@ pub fn receive_first<T: Conversation>(talk: &mut T, into: &mut [u8]) -> Result<(
 /// - `SourceFault`: the source counted a failure. (`MoreRule`)
 /// - `Done`, `Differs`, `Usage`, `ImageFault`, `SinkFault`, `NoMemory`, `NotADisc`: never. (`MoreRule`)
 fn receive_more<T: Conversation>(talk: &mut T, into: &mut [u8]) -> Result<(), Status>
-    ensures rule { MoreRule (T.left talk.old) (T.left talk.new) (T.faults talk.old) (T.faults talk.new) (length into.old) into.new result }
+    ensures rule { MoreRule (T.left talk.old) (T.left talk.new) (T.faults talk.old) (T.faults talk.new)
+        (length into.old) into.new result }
     ensures length { length into.new ≡ length into.old }
     ensures same { T.report talk.new ≡ T.report talk.old }
     ensures asks { AsksOnly
@@ -98,7 +100,8 @@ pub fn receive_data<T: Conversation>(
     room: &mut Vec<u8>,
 ) -> Result<(), Status>
     requires room { count ≤ vec_capacity room.old }
-    ensures rule { MoreRule (T.left talk.old) (T.left talk.new) (T.faults talk.old) (T.faults talk.new) count room.new.items result }
+    ensures rule { MoreRule (T.left talk.old) (T.left talk.new) (T.faults talk.old) (T.faults talk.new) count
+        room.new.items result }
     ensures same { T.report talk.new ≡ T.report talk.old }
     ensures asks { AsksOnly (IsShortAsk (T.left talk.old) (T.Sink.Sink.written (T.report talk.old)) count)
         (T.asked talk.old) (T.asked talk.new) }
@@ -112,7 +115,7 @@ pub fn receive_data<T: Conversation>(
     receive_more(talk, room.as_mut_slice())
 }
 
-/// Reads over the next `count` bytes of a message.
+/// Skips the next `count` bytes of a message.
 ///
 /// # Answers
 ///
@@ -127,7 +130,8 @@ pub fn read_over<T: Conversation>(
     room: &mut Vec<u8>,
 ) -> Result<(), Status>
     requires room { 32768 ≤ vec_capacity room.old }
-    ensures rule { OverRule (T.left talk.old) (T.left talk.new) (T.faults talk.old) (T.faults talk.new) count result }
+    ensures rule { OverRule (T.left talk.old) (T.left talk.new) (T.faults talk.old) (T.faults talk.new) count
+        result }
     ensures same { T.report talk.new ≡ T.report talk.old }
     ensures asks { AsksOnly (IsShortAsk (T.left talk.old) (T.Sink.Sink.written (T.report talk.old)) count)
         (T.asked talk.old) (T.asked talk.new) }

@@ -65,7 +65,8 @@ pub fn take_flags<T: Conversation>(talk: &mut T) -> Result<bool, Status>
 /// - `Differs`, `Usage`, `ImageFault`, `SinkFault`, `NoMemory`, `NotADisc`: never. (`TakeRule`)
 pub fn take_option<T: Conversation>(talk: &mut T, room: &mut Vec<u8>) -> Result<OptionHead, Status>
     requires room { REQUEST_ROOM ≤ vec_capacity room.old }
-    ensures rule { (zeros : Bool) → TakeRule (T.left talk.old) (T.left talk.new) (T.faults talk.old) (T.faults talk.new)
+    ensures rule { (zeros : Bool) → TakeRule (T.left talk.old) (T.left talk.new)
+        (T.faults talk.old) (T.faults talk.new)
         (OptionCame (T.left talk.old) (T.left talk.new) (T.faults talk.old) (T.faults talk.new) room.new.items)
         (Options zeros) result }
     ensures same { T.report talk.new ≡ T.report talk.old }
@@ -86,7 +87,8 @@ pub fn take_option<T: Conversation>(talk: &mut T, room: &mut Vec<u8>) -> Result<
 
 /// Takes the beginning of the next option.
 fn take_option_head<T: Conversation>(talk: &mut T) -> Result<OptionHead, Status>
-    ensures rule { (zeros : Bool) → TakeRule (T.left talk.old) (T.left talk.new) (T.faults talk.old) (T.faults talk.new)
+    ensures rule { (zeros : Bool) → TakeRule (T.left talk.old) (T.left talk.new)
+        (T.faults talk.old) (T.faults talk.new)
         (OptionHeadCame (T.left talk.old) (T.left talk.new) (T.faults talk.old) (T.faults talk.new))
         (Options zeros) result }
     ensures same { T.report talk.new ≡ T.report talk.old }

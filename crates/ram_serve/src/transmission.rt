@@ -48,8 +48,8 @@ pub fn serve_requests<D: Drive, T: Conversation>(
     ensures turn { (first : Beginning) (faults : List Line) (n : ℕ)
         → BetweenRequests first faults size n (Stands D.Caching D.lies_in D.Image.Image inserted.old)
         (T.left talk.old) (T.Sink.Sink.written (T.report talk.old))
-        → RequestsLeadTo first faults size (n + MOST_MESSAGES) (Stands D.Caching D.lies_in D.Image.Image inserted.new)
-        (T.left talk.new) (T.Sink.Sink.written (T.report talk.new)) result }
+        → RequestsLeadTo first faults size (n + MOST_MESSAGES)
+        (Stands D.Caching D.lies_in D.Image.Image inserted.new) (T.left talk.new) (T.Sink.Sink.written (T.report talk.new)) result }
     ensures counts { TurnCounts
         (counts_now T.Conversation T.Sink.Sink talk.old (faults_of D.Caching D.Image.Image inserted.old))
         (counts_now T.Conversation T.Sink.Sink talk.new (faults_of D.Caching D.Image.Image inserted.new)) result }
@@ -156,7 +156,8 @@ fn tell_reply<T: Conversation>(
 ) -> Result<(), Status>
     ensures rule { ReplyRule (T.Sink.Sink.written (T.report talk.old)) (T.Sink.Sink.written (T.report talk.new))
         operation reply.now result }
-    ensures count { ReplyCount (T.Sink.Sink.faults (T.report talk.old)) (T.Sink.Sink.faults (T.report talk.new)) result }
+    ensures count { ReplyCount (T.Sink.Sink.faults (T.report talk.old))
+        (T.Sink.Sink.faults (T.report talk.new)) result }
     ensures same_left { T.left talk.new ≡ T.left talk.old }
     ensures same_faults { T.faults talk.new ≡ T.faults talk.old }
     ensures same_asked { T.asked talk.new ≡ T.asked talk.old }

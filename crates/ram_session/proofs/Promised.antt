@@ -87,7 +87,7 @@ module _ (first : Beginning) (faults : List Line) where
       → TalkEnds first faults leaves left written status → Keeps written
   greeted leaves left written statuses.Done (far, ends) = told far written ends.at.written_is
   greeted leaves left written statuses.Script (far, inl (violates, at)) = told far written at.written_is
-  greeted leaves left written statuses.Script (far, inr (inl (came, some, none, at))) = told far written at.written_is
+  greeted leaves left written statuses.Script (far, inr (inl (came, some, awaits, none, at))) = told far written at.written_is
   greeted leaves left written statuses.Script (far, inr (inr (most, at))) = told far written at.written_is
   greeted leaves left written statuses.SourceFault (far, ends) = told far written ends.at.written_is
   greeted leaves left written statuses.SinkFault (far, ends) = told_in_part far written ends.n ends.written_is

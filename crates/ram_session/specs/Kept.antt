@@ -11,7 +11,7 @@ LeavesAsked at (operations.Write lba n fua) = (at < lba) ⊎ (lba + n ≤ at)
 LeavesAsked at (operations.WriteZeroes lba n fua) = (at < lba) ⊎ (lba + n ≤ at)
 LeavesAsked at _ = Unit {0}
 
--- the same of a message to a disc of so many bytes
+-- the same of a message to a disc of this many bytes
 abbrev pub LeavesByMessage : (size at : ℕ) → Message → Type 0
 LeavesByMessage size at (Flags zeros) = Unit {0}
 LeavesByMessage size at (Wants option) = Unit {0}

@@ -51,7 +51,7 @@ abbrev pub NoneRefused : List AnsweredStep → Type 0
 NoneRefused [] = Unit {0}
 NoneRefused (step ∷ before) = ¬ RefusesFault step.reply × NoneRefused before
 
--- What is served after the power was answered so: a disc of so many bytes; or nothing, and why.
+-- What is served after the power was answered so: a disc of this many bytes; or nothing, and why.
 abbrev pub served_after : Reply → Export
 served_after (replies.Event (events.Ready sectors)) = Serving (2048 * sectors)
 served_after (replies.Event events.NotFormatted) = Nothing (codes "the disc is not formatted")

@@ -71,11 +71,12 @@ module _ {first : Beginning} {faults : List Line} (far : SessionSoFar first faul
   -- a session has at most.
   abbrev pub BreaksProtocol : Type 0
   BreaksProtocol = ((far.phase ≡ Violation) × IsLeftAt [])
-      ⊎ ((came : List ℕ) × (0 < length came) × BeginsNoMessage far.phase far.rest × IsLeftAt came)
+      ⊎ ((came : List ℕ) × (0 < length came) × AwaitsMessage far.phase × BeginsNoMessage far.phase far.rest × IsLeftAt came)
       ⊎ ((2 ^ 64 - 1 ≤ length far.turns) × IsLeftAt [])
 
   -- The source failed, and what it gave of what follows is no whole message.
   pub record IsCutBySource : Type 0 where
+    pub awaits : AwaitsMessage far.phase
     pub came : List ℕ
     pub no_message : BeginsNoMessage far.phase came
     pub at : IsLeftAt came

@@ -83,7 +83,7 @@ pub record IsOptionAnswered (export : Export) (zeros : Bool) (option : OptionReq
   pub told_is : bytes ≡ (option_answer export zeros option).bytes
   pub next_is : next ≡ phase_after zeros (option_answer export zeros option).next
 
--- For a request to a disc of so many bytes the commands of what it asks are done, and the client is told how they ended.
+-- For a request to a disc of this many bytes the commands of what it asks are done, and the client is told how they ended.
 pub record IsRequestAnswered (size : ℕ) (request : Request) (dids : List Did) (bytes : List ℕ) (next : Phase) : Type 0 where
   pub whole : IsRequest request
   pub done : AreDone (commands_of (request_asks size request.header) request.payload) dids

@@ -17,7 +17,7 @@ use Rattle.ram_session.specs.Kept.{LeaveByMessages}
 use Rattle.ram_session.specs.Session.{SessionSoFar}
 use Rattle.ram_session.proofs.Chains.{session_runs}
 use Rattle.ram_session_laws.specs.ReadBack.{ReadSector, SettledSector, FaultsLeave}
-use Rattle.ram_session_laws.proofs.Registers.{HasAmong, by_line, carried}
+use Rattle.ram_machine.proofs.Registers.{HasAmong, by_line, carried}
 use Rattle.ram_session_laws.proofs.Chains.{Chain, two_runs, chain_of, earlier_chain, messages_keep, message_read, same_bytes}
 use Rattle.ram_session_laws.proofs.Settled.{joint_of, settled_last}
 use Rattle.ram_session.specs.Promise.{AreAnswered}

@@ -23,7 +23,7 @@ use Rattle.ram_session.specs.Kept.{LeavesByMessage, LeaveByMessages}
 use Rattle.ram_session.specs.Promise.{AreAnswered}
 use Rattle.ram_session.proofs.Kept.{AllBy, all_last, message_leaves, part_long, data_of_write, length_zeroes}
 use Rattle.ram_session_laws.specs.ReadBack.{SendsToSector, WroteSector, ReadSector}
-use Rattle.ram_session_laws.proofs.Registers.{HasAmong, by_command, carried}
+use Rattle.ram_machine.proofs.Registers.{HasAmong, by_command, carried}
 use Rattle.ram_session_laws.proofs.Told.{all_good, told_no_error, told_data, asked_in, IsReplied}
 use Rattle.ram_session_laws.proofs.Rows.{Rows, Reads, Writes, reads_row, writes_row, row_wrote_among, row_read, turned_command}
 

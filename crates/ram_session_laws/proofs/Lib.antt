@@ -1,4 +1,3 @@
-pub mod Registers
 pub mod Rows
 pub mod Told
 pub mod Chains

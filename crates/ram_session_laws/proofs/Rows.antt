@@ -16,7 +16,7 @@ use Rattle.ram_machine.specs.SectorBytes.{bytes_of_sector, is_sector_among}
 use Rattle.ram_machine.specs.Register.{Value, Bytes, Register, AfterWrite, AfterCommand, goes_through, Turn, Turns}
 use Rattle.ram_session.specs.Doing.{Did, WereGood, commands_in, data_from, step_of}
 use Rattle.ram_session.proofs.Decoded.{write_decoded, read_decoded}
-use Rattle.ram_session_laws.proofs.Registers.{HasAmong, by_command, now_them, carried}
+use Rattle.ram_machine.proofs.Registers.{HasAmong, by_command, now_them, carried}
 
 -- These commands move the sectors from the first one on, one after another, up to the end.
 abbrev pub Rows : (Moves : (first n : ℕ) → Command → Type 0) → (first : ℕ) → List Command → (end : ℕ) → Type 0

@@ -159,7 +159,7 @@ module _ (first : Beginning) (faults : List Line) (after : Aftermath) (messages 
 
   broken : (far : SessionSoFar first faults) → BreaksProtocol far (λ s. LeavesImage s after.image) after.left after.written → ⊥
   broken far (inl (violates, at)) = let has = still far in no_violation (export_after far.opened.steps) far.phase has.more has.keeps violates
-  broken far (inr (inl (came_now, some, none, at))) =
+  broken far (inr (inl (came_now, some, awaits, none, at))) =
       let has = still far in begins (export_after far.opened.steps) far.phase far.rest came_now after.left has.more has.keeps has.rest_is none some at.left_is
   broken far (inr (inr (most, at))) =
       omega (arith, most, sent_long far.turns, length-append (sent_in far.turns) far.rest, ap length far.sent_is, short)

@@ -25,7 +25,7 @@ use Rattle.ram_session.specs.Talk.{Phase, Greeted, Options, Transmission, Messag
 use Rattle.ram_session.specs.Kept.{LeaveByMessages}
 use Rattle.ram_session.proofs.Kept.{AllBy, all_last, message_leaves}
 use Rattle.ram_session_laws.specs.ReadBack.{SendsToSector, WroteSector, ReadSector, WasFlushed, LeftSynchronised, SettledSector}
-use Rattle.ram_session_laws.proofs.Registers.{HasAmong, apart_false}
+use Rattle.ram_machine.proofs.Registers.{HasAmong, apart_false}
 use Rattle.ram_session_laws.proofs.Told.{asked_in}
 use Rattle.ram_session_laws.proofs.Rows.{Rows, Reads, Writes, row_wrote_now, turned_command, left_apart}
 use Rattle.ram_session_laws.proofs.Chains.{two_runs, map_two, read_rows, write_rows, zero_rows, all_wrote, message_keeps, message_wrote, message_read}

@@ -24,7 +24,7 @@ SendsToSector at (operations.Write lba n fua) payload bytes = IsAmong lba n at �
 SendsToSector at (operations.WriteZeroes lba n fua) payload bytes = IsAmong lba n at × (bytes ≡ zeros 2048)
 SendsToSector at _ payload bytes = ⊥
 
--- The message wrote these bytes to the sector of a disc of so many bytes, and was told without an error.
+-- The message wrote these bytes to the sector of a disc of this many bytes, and was told without an error.
 pub record WroteSector (size at : ℕ) (turned : Turned) (bytes : List ℕ) : Type 0 where
   pub request : Request
   pub told : WasToldGood turned request []

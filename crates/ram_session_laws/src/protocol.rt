@@ -20,7 +20,8 @@ ghost use Rattle.ram_session_laws.specs.Protocol.{KeepsProtocol, messages_bytes,
 /// - `served`: so it is.
 /// - `faultless`: so it is where the words ask for no fault, since then none is refused.
 pub fn a_client_that_keeps_to_the_protocol_is_served()
-    ensures served { (first : Beginning) (faults : List Line) (after : Aftermath) (status : Status) (counts later : Counts)
+    ensures served { (first : Beginning) (faults : List Line) (after : Aftermath) (status : Status)
+        (counts later : Counts)
         (messages : List Message) → SessionStands first faults after status → SessionCounts counts later status
         → NoneRose counts later → ¬ EndsRefused first faults after
         → first.script ≡ messages_bytes messages → length first.script < 2 ^ 64

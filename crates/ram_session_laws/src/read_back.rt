@@ -34,10 +34,12 @@ pub fn a_written_sector_is_read_back()
 /// - `settles`: so the bytes that it has now are settled.
 pub fn a_flush_makes_values_last()
     ensures registers { (size at : ℕ) (was next : Phase) (turned : Turned) (r after : Register)
-        → TurnFollows (Serving size) was turned next → WasFlushed size turned → Turns at r (map step_of turned.dids) after
+        → TurnFollows (Serving size) was turned next → WasFlushed size turned
+        → Turns at r (map step_of turned.dids) after
         → after ≡ synchronised r.now r }
     ensures settles { (size at : ℕ) (was next : Phase) (turned : Turned) (r after : Register) (bytes : List ℕ)
-        → TurnFollows (Serving size) was turned next → WasFlushed size turned → Turns at r (map step_of turned.dids) after
+        → TurnFollows (Serving size) was turned next → WasFlushed size turned
+        → Turns at r (map step_of turned.dids) after
         → after.now ≡ Some (Bytes bytes) → HasSettled after bytes }
 {}
 
@@ -53,6 +55,7 @@ pub fn a_settled_sector_is_read_in_the_next_session()
         → SettledSector size at one.turns bytes
         → IsLeft one.now second.image → kind_of two.opened.start ≡ kind_of one.now → FaultsLeave at others
         → export_after two.opened.steps ≡ Serving large → large < 2048 * 2 ^ 32
-        → two.turns ≡ after ++ (read ∷ before) → LeaveByMessages large at before → ReadSector large at read found
+        → two.turns ≡ after ++ (read ∷ before) → LeaveByMessages large at before
+        → ReadSector large at read found
         → found ≡ bytes }
 {}

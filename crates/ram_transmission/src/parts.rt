@@ -39,11 +39,12 @@ fn do_command<D: Drive>(
     }
 }
 
-/// Puts the data of a part of so many sectors behind the reply, if it was good.
+/// Appends the data of a part of this many sectors to the reply, if it was good.
 fn put_data(answer: Answer, n: u32, data_in: &[u8], reply: &mut Vec<u8>)
     requires few { n ≤ 1024 }
     requires room { length reply.old.items + 2048 * n ≤ vec_capacity reply.old }
-    ensures given { length data_in.now ≡ 2048 * n → GoesBehind reply.old.items reply.new.items answer data_in.now }
+    ensures given { length data_in.now ≡ 2048 * n
+        → GoesBehind reply.old.items reply.new.items answer data_in.now }
     ensures len { length reply.new.items ≤ length reply.old.items + 2048 * n }
     ensures room { vec_capacity reply.old ≤ vec_capacity reply.new }
 {
@@ -58,7 +59,7 @@ fn put_data(answer: Answer, n: u32, data_in: &[u8], reply: &mut Vec<u8>)
     }
 }
 
-/// Reads `n` sectors from `lba` on, and puts their data behind the reply.
+/// Reads `n` sectors from `lba` on, and appends their data to the reply.
 fn read_part<D: Drive>(
     inserted: &mut Inserted<D>,
     lba: u32,
@@ -88,7 +89,7 @@ fn read_part<D: Drive>(
     }
 }
 
-/// Reads sectors in parts of 1,024, and puts their data behind the reply.
+/// Reads sectors in parts of 1,024, and appends their data to the reply.
 pub fn read_parts<D: Drive>(
     inserted: &mut Inserted<D>,
     lba: u32,

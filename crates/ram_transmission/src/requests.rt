@@ -47,8 +47,8 @@ pub fn answer_request<D: Drive>(
     requires room { REQUEST_ROOM ≤ vec_capacity message.old }
     requires data_room { PAYLOAD_ROOM ≤ vec_capacity data_in.old }
     ensures rule { (s : Served) → Stands D.Caching D.lies_in D.Image.Image inserted.old (Disc s)
-        → RequestRule (Stands D.Caching D.lies_in D.Image.Image inserted.new) s operation message.old.items cookie
-        message.new.items result }
+        → RequestRule (Stands D.Caching D.lies_in D.Image.Image inserted.new) s operation message.old.items
+        cookie message.new.items result }
     ensures count { ImageCount (faults_of D.Caching D.Image.Image inserted.old)
         (faults_of D.Caching D.Image.Image inserted.new) result }
     ensures room { vec_capacity message.old ≤ vec_capacity message.new }
@@ -84,8 +84,8 @@ fn answer_read<D: Drive>(
     requires room { REQUEST_ROOM ≤ vec_capacity reply.old }
     requires data_room { PAYLOAD_ROOM ≤ vec_capacity data_in.old }
     ensures rule { (s : Served) → Stands D.Caching D.lies_in D.Image.Image inserted.old (Disc s)
-        → RequestRule (Stands D.Caching D.lies_in D.Image.Image inserted.new) s (operations.Read lba n) reply.old.items cookie
-        reply.new.items result }
+        → RequestRule (Stands D.Caching D.lies_in D.Image.Image inserted.new) s (operations.Read lba n)
+        reply.old.items cookie reply.new.items result }
     ensures count { ImageCount (faults_of D.Caching D.Image.Image inserted.old)
         (faults_of D.Caching D.Image.Image inserted.new) result }
     ensures room { vec_capacity reply.old ≤ vec_capacity reply.new }
@@ -115,8 +115,8 @@ fn answer_write<D: Drive>(
     requires room { REQUEST_ROOM ≤ vec_capacity message.old }
     requires data_room { PAYLOAD_ROOM ≤ vec_capacity data_in.old }
     ensures rule { (s : Served) → Stands D.Caching D.lies_in D.Image.Image inserted.old (Disc s)
-        → RequestRule (Stands D.Caching D.lies_in D.Image.Image inserted.new) s (operations.Write lba n fua) message.old.items cookie
-        message.new.items result }
+        → RequestRule (Stands D.Caching D.lies_in D.Image.Image inserted.new) s (operations.Write lba n fua)
+        message.old.items cookie message.new.items result }
     ensures count { ImageCount (faults_of D.Caching D.Image.Image inserted.old)
         (faults_of D.Caching D.Image.Image inserted.new) result }
     ensures room { vec_capacity message.old ≤ vec_capacity message.new }
@@ -148,8 +148,8 @@ fn answer_zeroes<D: Drive>(
     requires room { REQUEST_ROOM ≤ vec_capacity message.old }
     requires data_room { PAYLOAD_ROOM ≤ vec_capacity data_in.old }
     ensures rule { (s : Served) → Stands D.Caching D.lies_in D.Image.Image inserted.old (Disc s)
-        → RequestRule (Stands D.Caching D.lies_in D.Image.Image inserted.new) s (operations.WriteZeroes lba n fua) message.old.items cookie
-        message.new.items result }
+        → RequestRule (Stands D.Caching D.lies_in D.Image.Image inserted.new) s
+        (operations.WriteZeroes lba n fua) message.old.items cookie message.new.items result }
     ensures count { ImageCount (faults_of D.Caching D.Image.Image inserted.old)
         (faults_of D.Caching D.Image.Image inserted.new) result }
     ensures room { vec_capacity message.old ≤ vec_capacity message.new }
@@ -178,8 +178,8 @@ fn answer_flush<D: Drive>(
     requires room { REQUEST_ROOM ≤ vec_capacity message.old }
     requires data_room { PAYLOAD_ROOM ≤ vec_capacity data_in.old }
     ensures rule { (s : Served) → Stands D.Caching D.lies_in D.Image.Image inserted.old (Disc s)
-        → RequestRule (Stands D.Caching D.lies_in D.Image.Image inserted.new) s operations.Flush message.old.items cookie
-        message.new.items result }
+        → RequestRule (Stands D.Caching D.lies_in D.Image.Image inserted.new) s operations.Flush
+        message.old.items cookie message.new.items result }
     ensures count { ImageCount (faults_of D.Caching D.Image.Image inserted.old)
         (faults_of D.Caching D.Image.Image inserted.new) result }
     ensures room { vec_capacity message.old ≤ vec_capacity message.new }
@@ -205,8 +205,8 @@ fn disconnect<D: Drive>(
 ) -> Result<(), Stopped>
     requires data_room { PAYLOAD_ROOM ≤ vec_capacity data_in.old }
     ensures rule { (s : Served) (cookie : ℕ) → Stands D.Caching D.lies_in D.Image.Image inserted.old (Disc s)
-        → RequestRule (Stands D.Caching D.lies_in D.Image.Image inserted.new) s operations.Disconnect message.old.items cookie
-        message.new.items result }
+        → RequestRule (Stands D.Caching D.lies_in D.Image.Image inserted.new) s operations.Disconnect
+        message.old.items cookie message.new.items result }
     ensures count { ImageCount (faults_of D.Caching D.Image.Image inserted.old)
         (faults_of D.Caching D.Image.Image inserted.new) result }
     ensures room { vec_capacity message.old ≤ vec_capacity message.new }
@@ -258,7 +258,7 @@ fn put_reply(reply: &mut Vec<u8>, error: u32, cookie: u64)
     }
 }
 
-/// The zeros of the longest part of so many sectors.
+/// The zeros of the longest part of this many sectors.
 fn put_zeros(message: &mut Vec<u8>, n: u32)
     requires { REQUEST_ROOM ≤ vec_capacity message.old }
     ensures zeros { message.new.items ≡ zeroes_for (length message.new.items) }

@@ -10,7 +10,7 @@ use Rattle.ram_serve.proofs.handshake.serve_option.Goals as goal
 pub returns-in-Err-clause-turn : goal.returns-in-Err-clause-turn
 returns-in-Err-clause-turn g c = λ first faults ready n b.
     ends_untaken first faults (export_of c.args.size c.args.reason.now) (Options c.args.zeros) n (IsState ready)
-    (g.T.Conversation.left c.args.talk.now) (g.T.Conversation.left c.take_option.new.talk) (g.T.Sink.Sink.written (g.T.Conversation.report c.args.talk.now)) b (g.T.Conversation.faults c.args.talk.now) (g.T.Conversation.faults c.take_option.new.talk) c.in-Err.status (g.T.Sink.Sink.written (g.T.Conversation.report c.take_option.new.talk))
+    (g.T.Conversation.left c.args.talk.now) (g.T.Conversation.left c.take_option.new.talk) (g.T.Sink.Sink.written (g.T.Conversation.report c.args.talk.now)) b tt (g.T.Conversation.faults c.args.talk.now) (g.T.Conversation.faults c.take_option.new.talk) c.in-Err.status (g.T.Sink.Sink.written (g.T.Conversation.report c.take_option.new.talk))
     (ap (λ sink. g.T.Sink.Sink.written sink) c.in-Err.ensures.same) (c.in-Err.ensures.rule c.args.zeros)
 
 pub returns-in-Err-clause-counts : goal.returns-in-Err-clause-counts

@@ -21,7 +21,7 @@ pub returns-in-Err-clause-turn : goal.returns-in-Err-clause-turn
 returns-in-Err-clause-turn g c first faults n b =
     ends_untaken first faults (Serving c.args.size) Transmission n (Stands g.D.Caching g.D.Drive.lies_in g.D.Image.Image c.args.inserted.now)
     (g.T.Conversation.left c.args.talk.now) (g.T.Conversation.left c.take_request.new.talk)
-    (g.T.Sink.Sink.written (g.T.Conversation.report c.args.talk.now)) b.between
+    (g.T.Sink.Sink.written (g.T.Conversation.report c.args.talk.now)) b.between tt
     (g.T.Conversation.faults c.args.talk.now) (g.T.Conversation.faults c.take_request.new.talk) c.in-Err.status
     (g.T.Sink.Sink.written (g.T.Conversation.report c.take_request.new.talk)) (ap (λ sink. g.T.Sink.Sink.written sink) c.in-Err.ensures.same)
     c.in-Err.ensures.rule
