@@ -25,11 +25,17 @@ class Sense(NamedTuple):
 
 
 class Check(Exception):
-    """A command was not done, or not all of it."""
+    """A command was not done, or not all of it. Where a list could not be written or too many blocks are
+    defective, a number says more than the sense: the counter, or how many are."""
 
-    def __init__(self, *sense: int) -> None:
+    def __init__(self, *sense: int, number: int = 0) -> None:
         super().__init__()
         self.sense = Sense(*sense)
+        self.number = number
+
+
+class TooMany(Check):
+    """More blocks are defective than may be slipped."""
 
 
 BUFFERED_BLOCKS = 8
@@ -105,11 +111,12 @@ class Drive:
     def update_secondary(self, secondary: Secondary) -> None:
         """Takes the next secondary list into use, if its counter has room and a copy of it can be read."""
         assert self.lists is not None
-        if self.lists.secondary.counter == LAST_COUNTER:
-            raise Check(*NO_UPDATE)
-        new = replace(secondary, counter=self.lists.secondary.counter + 1)
+        counter = self.lists.secondary.counter
+        if counter == LAST_COUNTER:
+            raise Check(*NO_UPDATE, number=counter)
+        new = replace(secondary, counter=counter + 1)
         if not self.on_copies(self.put, self.secondary_copies(new)):
-            raise Check(*NO_UPDATE)
+            raise Check(*NO_UPDATE, number=counter)
         self.lists = replace(self.lists, secondary=new)
 
     # The mount.
@@ -210,7 +217,7 @@ class Drive:
         if rewriting and self.lists is not None:
             self.rewrite(self.lists)
         elif LAST_COUNTER - self.mark < 2:
-            raise Check(*FORMAT_FAILED)
+            raise Check(*FORMAT_FAILED, number=self.mark)
         else:
             kept: Dict[int, int] = {} if self.lists is None else self.kept(self.lists, forgets)
             kind = Kind.FIRST_FORMAT if self.lists is None else Kind.LATER_FORMAT
@@ -238,20 +245,20 @@ class Drive:
         self.mark += 1
         begun = Structure(MADE, False, self.mark, geometry.spares, layout=geometry.layout)
         if not self.on_copies(self.put, self.structure_copies(begun)):
-            raise Check(*FORMAT_FAILED)
+            raise Check(*FORMAT_FAILED, number=self.mark)
         for block in geometry.data_blocks:
             if block not in defects and not self.put(block, bytes(BLOCK)):
                 defects[block] = kind
         if slips_too_many(defects, geometry):
-            raise Check(*FORMAT_FAILED)
+            raise TooMany(*FORMAT_FAILED, number=len(defects))
         self.mark += 1
         entries = tuple(Slipped(defects[block], block) for block in sorted(defects))
         ended = Structure(MADE, True, self.mark, geometry.spares, entries, geometry.layout)
         secondary = Secondary(MADE, 1, ended.counter)
         if not self.on_copies(self.put, self.secondary_copies(secondary)):
-            raise Check(*FORMAT_FAILED)
+            raise Check(*FORMAT_FAILED, number=secondary.counter)
         if not self.on_copies(self.put, self.structure_copies(ended)):
-            raise Check(*FORMAT_FAILED)
+            raise Check(*FORMAT_FAILED, number=ended.counter)
         self.lists = Lists(geometry, ended, secondary)
 
     @property
