@@ -20,10 +20,12 @@
 
 mod dds;
 pub mod laws;
+mod records;
 mod sdl;
 mod versions;
 
 pub use dds::{DdsState, PdlEntry, PdlKind};
 pub use model_geometry::{MOST_SPARES, SDL_LIMIT};
+pub use records::{REGION_BLOCKS, REGIONS};
 pub use sdl::SdlEntry;
 pub use versions::Version;

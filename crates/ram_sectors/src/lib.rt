@@ -59,7 +59,10 @@ ghost use Rattle.model_drive.specs.Writes.{WriteCause, WriteStep, WriteCompletes
 ghost use Rattle.model_drive.specs.Power.{PowerCause, PowerStep};
 ghost use Rattle.model_drive.specs.Formats.{FormatCause, FormatStep, FormatCompletes};
 ghost use Rattle.model_drive.specs.Expands.{ExpandCause, ExpandStep, ExpandCompletes};
+ghost use Rattle.model_drive.specs.Records.{GenerationCause, LeadFromCause, RecordStep};
 ghost use Rattle.model_drive.specs.Tells.{CapacityRule, CountsRule, DdsRule};
+ghost use Rattle.model_lists.specs.Records.{IsLawfulRecord};
+ghost use Rattle.ram_record.specs.Record.{record_of};
 ghost use Rattle.ram_sectors.specs.declared.TheConstants.{VERIFY_LIMIT, MOST_BLOCKS};
 ghost use Rattle.ram_sectors.specs.Laws.{SectorsLaws, UnderwentLaws};
 
@@ -68,9 +71,10 @@ mod caching;
 pub use caching::Caching;
 pub use model_cache::{SyncOut, TickOut};
 pub use model_commands::TRANSFER_LIMIT;
-pub use model_drive::{DriveCounts, ExpandOut, FormatOut, Kind, WriteOut};
+pub use model_drive::{DriveCounts, ExpandOut, FormatOut, Kind, RecordOut, WriteOut};
 pub use model_sectors::{PowerOut, ReadOut};
 use ram_bytes::Block;
+use ram_record::LeadRecord;
 
 /// How many sectors are verified at once at most. (INCITS MMC gives their number two bytes.)
 pub const VERIFY_LIMIT: u32 = 65_535;
@@ -299,6 +303,45 @@ pub trait Disc: Sectors {
         ensures cause { VerifyCause (Self.shows self.old) (Self.shows self.new) lba n result }
         ensures step { (s : Standing) → Self.stands self.old s → VerifyStep (Self.stands self.new) s result }
         ensures completes { ReadCompletes (Self.shows self.old) (Self.shows self.new) lba n result }
+        ensures same_shape { (Self.shows self.new).shape ≡ (Self.shows self.old).shape }
+        ensures underwent { Self.underwent self.old self.new };
+
+    /// Reads the record of the lead, which each disc of a mirror has in four copies: it is chosen among them, and they are repaired to
+    /// it. A disc that has none gets the first one. It is there whether the disc is formatted or not, and no other call but
+    /// `lead_from` writes it. `other` is room for a copy that is looked at, and has any record afterwards.
+    ///
+    /// # Answers
+    ///
+    /// Causes: `GenerationCause`; the disc: `RecordStep`.
+    ///
+    /// - `Good`: `best` is the one that was chosen: the greatest number, of equal ones the lowest area, or the first record. Then:
+    ///   each copy is exactly its text or dead, and some can be read. (`ReadsRecord`)
+    /// - `Lost`: no copy can be read. Then: all four are dead. (`FindsRecordLost`)
+    /// - `Cut`: the power was cut in this call. Then: off; the disc is the only candidate; the copies are as they were, or repaired
+    ///   up to there. (`StopsReadingRecord`)
+    /// - `Off`: exactly when the power was off. Then: nothing changed. (`WasOff`)
+    /// - `Fault`: what the medium lies on counted a failure. Then: as after `Cut`. (`StopsReadingRecord`)
+    fn generation(&mut self, best: &mut LeadRecord, other: &mut LeadRecord) -> RecordOut
+        ensures cause { GenerationCause (Self.shows self.old) (Self.shows self.new) (record_of best.new) result }
+        ensures step { (s : Standing) → Self.stands self.old s → RecordStep (Self.stands self.new) s result }
+        ensures same_shape { (Self.shows self.new).shape ≡ (Self.shows self.old).shape }
+        ensures underwent { Self.underwent self.old self.new };
+
+    /// Writes the record of the lead: each of its four copies, which is read back.
+    ///
+    /// # Answers
+    ///
+    /// Causes: `LeadFromCause`; the disc: `RecordStep`.
+    ///
+    /// - `Good`: it is written. Then: each copy is exactly its text or dead, and some can be read. (`WritesRecord`)
+    /// - `Lost`: no copy can be read. Then: all four are dead. (`WritesRecordInVain`)
+    /// - `Cut`: the power was cut in this call. Then: off; the disc is the only candidate; the copies are written up to there.
+    ///   (`StopsWritingRecord`)
+    /// - `Off`: exactly when the power was off. Then: nothing changed. (`WasOff`)
+    /// - `Fault`: what the medium lies on counted a failure. Then: as after `Cut`. (`StopsWritingRecord`)
+    fn lead_from(&mut self, value: &LeadRecord) -> RecordOut
+        ensures cause { LeadFromCause (Self.shows self.old) (Self.shows self.new) (record_of value.now) result }
+        ensures step { (s : Standing) → Self.stands self.old s → RecordStep (Self.stands self.new) s result }
         ensures same_shape { (Self.shows self.new).shape ≡ (Self.shows self.old).shape }
         ensures underwent { Self.underwent self.old self.new };
 
