@@ -2,18 +2,20 @@
 use Rattle.std.specs.Prelude.{◌≡◌, ◌≢◌, ℕ, ◌<◌, List}
 use Rattle.std.proofs.Common.{sym, ◌∙◌, inl, inr, subst, arith}
 use Rattle.std.proofs.lemmas.Bool.{cases_eq, cases_lt}
-use Rattle.model_geometry.specs.Geometry.{Shape, dds_block, sdl_block, sdl_second_block}
+use Rattle.model_geometry.specs.Geometry.{Shape, dds_block, sdl_block, sdl_second_block, record_block}
 use Rattle.model_lists.specs.declared.versions.Version.{Version}
 use Rattle.model_lists.specs.Values.{Dds, Sdl}
 use Rattle.model_lists.specs.Texts.{IsDdsText, IsSdlText, IsSdlSecond}
+use Rattle.model_lists.specs.Records.{LeadRecord, IsRecordText}
 use Rattle.model_medium.specs.Cells.{Cell, Dead, cell_at}
-use Rattle.model_copies.specs.Copies.{Holds, HasDdsCopy}
+use Rattle.model_copies.specs.Copies.{Holds, HasDdsCopy, HasCopy}
 use Rattle.model_copies.specs.Parts.{HasSdlCopy}
+use Rattle.model_copies.specs.Stops.{StopsAt}
 use Rattle.model_places.specs.Places.{Lists}
 use Rattle.model_volume.specs.Given.{AreSettled, AreSeen, AreChosen}
 use Rattle.model_survival.specs.Stops.{LeavesDds, LeavesSdl, SdlCellsDie, MendsChosen, StopsMounting}
 use Rattle.model_survival.specs.Findable.{DdsLives, SdlLives, ListCellsDie}
-use Rattle.model_survival.specs.Losing.{LosesOneDds, LosesOneSdl, LosesOneAtMost, HaveOneVersion}
+use Rattle.model_survival.specs.Losing.{LosesOneDds, LosesOneSdl, LosesOneRecord, LosesOneAtMost, HaveOneVersion}
 use Rattle.model_survival.proofs.Finding.{alive_holds, holds_on, lives_has, die_of_loses, die_of_seen, parts_were_there}
 
 module _ (shape : Shape) (old new : List Cell) where
@@ -63,6 +65,25 @@ module _ (shape : Shape) (old new : List Cell) where
 
     pub sdl_lost : LosesOneSdl shape old new value.version
     sdl_lost = record { at = left.stops.at; others = λ v area same copy other lives. sdl_there v area same copy lives other }
+
+  -- ---- the record of the lead
+
+  module _ (value : LeadRecord) (at : ℕ) (stops : StopsAt IsRecordText (record_block shape) old new value at) where
+    record_there : (v : LeadRecord) (area : ℕ) → HasCopy IsRecordText (record_block shape) old v area → area ≢ at → cell_at new (record_block shape area) ≢ Dead
+        → (now : LeadRecord) × HasCopy IsRecordText (record_block shape) new now area
+    record_there v area copy other alive = elim (cases_lt area at) [
+      | inl sooner ↦ (value, record { is_area = copy.is_area; holds = alive_holds IsRecordText (cell_at new (record_block shape area)) value (stops.done area copy.is_area sooner) alive })
+      | inr not ↦ (
+        v,
+        record {
+          is_area = copy.is_area;
+          holds = holds_on IsRecordText (cell_at old (record_block shape area)) (cell_at new (record_block shape area)) v (stops.to_come area copy.is_area (omega (arith, other, not))) copy.holds alive;
+        },
+      )
+    ]
+
+    pub record_lost : LosesOneRecord shape old new
+    record_lost = record { at = at; others = record_there }
 
   -- ---- both lists
 

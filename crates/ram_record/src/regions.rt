@@ -1,6 +1,6 @@
 //! The regions of a record in their room: no call but `new` takes memory.
 
-ghost use Rattle.std.specs.Prelude.{◌≡◌, ◌+◌, ◌<◌, ◌≤◌, IfOk, length, replicate};
+ghost use Rattle.std.specs.Prelude.{◌≡◌, ◌+◌, ◌<◌, ◌≤◌, IfOk, length, replicate, All, set};
 ghost use Rattle.model_lists.specs.declared.records.TheConstants.{REGIONS};
 
 use model_lists::REGIONS;
@@ -21,6 +21,14 @@ impl Model for Regions {
     ghost view = { λ r. r.bytes.items };
 
     ghost invariant = { λ r. vec_len r.bytes ≡ 2296 };
+}
+
+/// The same bytes, with what their type says of each.
+fn as_bytes(bytes: &[u8]) -> &[u8]
+    ensures same { result.now ≡ bytes.now }
+    ensures fit { All (λ byte. byte < 256) result.now }
+{
+    bytes
 }
 
 impl Regions {
@@ -44,7 +52,32 @@ impl Regions {
     pub fn bytes(&self) -> &[u8]
         ensures same { result.now ≡ self.now }
         ensures len { length result.now ≡ REGIONS }
+        ensures fit { All (λ byte. byte < 256) result.now }
     {
-        self.bytes.as_slice()
+        as_bytes(self.bytes.as_slice())
+    }
+
+    /// Takes over a byte for each region.
+    pub fn copy_from(&mut self, bytes: &[u8])
+        requires { length bytes.now ≡ REGIONS }
+        ensures same { self.new ≡ bytes.now }
+        ensures fit { All (λ byte. byte < 256) self.new }
+    {
+        self.bytes.copy_from_slice(bytes);
+    }
+
+    /// Makes each byte this one.
+    pub fn fill(&mut self, byte: u8)
+        ensures { self.new ≡ replicate REGIONS byte }
+    {
+        self.bytes.fill(byte);
+    }
+
+    /// Makes the byte of one region this one.
+    pub fn put(&mut self, region: usize, byte: u8)
+        requires { region < REGIONS }
+        ensures { self.new ≡ set self.old region byte }
+    {
+        self.bytes[region] = byte;
     }
 }
