@@ -34,6 +34,13 @@ fn begin_bytes(together: bool, generation: u32) -> [u8; 8]
     [0x4c, 0x45, 1, together_byte, g0, g1, g2, g3]
 }
 
+/// That the number is one of four bytes.
+fn has_four_bytes(number: u32)
+    ensures { number < 2 ^ 32 }
+{
+    let _number = number;
+}
+
 /// The flag, where the first four bytes are those of a record.
 fn together_of(bytes: &[u8]) -> Option<bool>
     ensures { MatchOption result
@@ -90,6 +97,18 @@ impl LeadRecord {
         self.generation = other.generation;
         self.together = other.together;
         self.dirty.copy_from(other.dirty.bytes());
+    }
+
+    /// That the value of a record is lawful: the types of its parts keep that.
+    ///
+    /// # Clauses
+    ///
+    /// - `IsLawfulRecord`: it holds of each record, and the call does nothing.
+    pub fn is_lawful(&self)
+        ensures { IsLawfulRecord (record_of self.now) }
+    {
+        has_four_bytes(self.generation);
+        let _bytes = self.dirty.bytes();
     }
 
     /// Writes the text of this value, all bytes of the block.

@@ -9,6 +9,8 @@ use Rattle.model_drive.specs.declared.FormatOut.{FormatOut}
 use Rattle.model_drive.specs.declared.FormatOut.TheVariants as formats
 use Rattle.model_drive.specs.declared.ExpandOut.{ExpandOut}
 use Rattle.model_drive.specs.declared.ExpandOut.TheVariants as expands
+use Rattle.model_drive.specs.declared.RecordOut.{RecordOut}
+use Rattle.model_drive.specs.declared.RecordOut.TheVariants as records
 
 abbrev pub read_stopped_by : Stop → ReadOut
 read_stopped_by stops.Cut = reads.Cut
@@ -29,3 +31,8 @@ abbrev pub expand_stopped_by : Stop → ExpandOut
 expand_stopped_by stops.Cut = expands.Cut
 expand_stopped_by stops.Off = expands.Off
 expand_stopped_by stops.Fault = expands.Fault
+
+abbrev pub record_stopped_by : Stop → RecordOut
+record_stopped_by stops.Cut = records.Cut
+record_stopped_by stops.Off = records.Off
+record_stopped_by stops.Fault = records.Fault
