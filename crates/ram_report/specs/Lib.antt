@@ -1,3 +1,4 @@
 pub mod Writer
 pub mod Reports
 pub mod ReportLines
+pub mod MirrorLines

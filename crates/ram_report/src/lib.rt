@@ -1,6 +1,7 @@
 //! The report, written to any sink: its lines, and the writer that gathers them.
 //!
-//! `specs/ReportLines.antt` says which bytes are an answer, `specs/Writer.antt` what a writer leaves.
+//! `specs/ReportLines.antt` says which bytes are an answer, `specs/MirrorLines.antt` which are one of a mirror, `specs/Writer.antt` what a
+//! writer leaves.
 //!
 //! - `ReportWriter`, `few` (a fact of the type): At most 64 KiB (`GATHERED_ROOM`) are gathered at any time, also after a failure
 //!   of the sink.
@@ -9,7 +10,7 @@
 //!
 //! Only tested, by rows of `ram_text_tests`: the text of each answer, as bytes.
 //!
-//! Behind `found N` the blocks that were found are printed (`event_text`), behind every other answer to a line that is no command
+//! Behind the answer to a read of a mirror its sectors are printed (`mirror_text`). Behind `found N` the blocks that were found are printed (`event_text`), behind every other answer to a line that is no command
 //! nothing.
 //!
 //! A new answer gets its words in `specs/ReportLines.antt`, its name in `Event` of `src/printing.rt`, and its text in
@@ -23,5 +24,8 @@ pub mod printing;
 pub mod report;
 
 pub use gathered::{GATHERED_ROOM, Print, SinkFailed, hand_over};
-pub use printing::{Event, LastLine, digits_of, print_answer, print_event, print_last, print_line};
+pub use printing::{
+    Event, LastLine, MirrorEvent, digits_of, print_answer, print_event, print_last, print_line,
+    print_mirror,
+};
 pub use report::{ReportWriter, WRITER_MEMORY};

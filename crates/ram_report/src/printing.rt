@@ -4,11 +4,13 @@ mod commands;
 mod data;
 mod events;
 mod last_lines;
+mod mirror;
 mod parts;
 
 pub use commands::{digits_of, print_answer};
 pub use events::print_event;
 pub use last_lines::print_last;
+pub use mirror::print_mirror;
 pub use parts::print_line;
 
 /// The answer to a line of the script that is no command.
@@ -66,6 +68,60 @@ pub enum Event {
         /// How many.
         count: u64,
     },
+}
+
+/// The answer to a line for a mirror of two discs.
+#[derive(Clone, Copy, Debug, PartialEq, Eq)]
+pub enum MirrorEvent {
+    /// An answer that a line for one disc may have too.
+    OfDisc {
+        /// It.
+        event: Event,
+    },
+    /// The write or the format was done.
+    Good,
+    /// The read was done. The sectors are told behind this line.
+    Shows {
+        /// The first of them.
+        lba: u32,
+    },
+    /// A block cannot be read.
+    Unread {
+        /// Its first sector.
+        lba: u32,
+    },
+    /// A block cannot be written: its home is dead, and so are all spares that are free for it.
+    NoSpare {
+        /// Its first sector.
+        lba: u32,
+    },
+    /// A list, or the record of the lead, could not be updated.
+    NoUpdate {
+        /// Its counter, or its number.
+        counter: u32,
+    },
+    /// The disc has no such sectors.
+    Range {
+        /// How many sectors it has.
+        capacity: u32,
+    },
+    /// A format found more dead blocks than the disc may have.
+    TooMany {
+        /// How many.
+        count: u32,
+    },
+    /// Blocks in which the other side may lack what the lead has.
+    Left {
+        /// How many.
+        count: u32,
+    },
+    /// This side leads.
+    Leads {
+        /// Side a.
+        on_a: bool,
+    },
+    /// Which side led last cannot be told.
+    Unknown,
 }
 
 /// The last line of a report, by how the run ended.

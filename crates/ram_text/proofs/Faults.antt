@@ -2,6 +2,7 @@
 use Rattle.std.proofs.Common.{◌≡◌, ℕ, true, false, Bool, eqb, ltb, Option, Some, None, List, [], ◌∷◌, get_or, refl, sym, ◌∙◌, ap, subst}
 use Rattle.std.specs.Prelude.{IfSome, IfNone, if◌then◌else◌}
 use Rattle.std.specs.Str.{bytes_eq}
+use Rattle.model_commands.specs.Commands.{out_length_of}
 use Rattle.ram_text.specs.ScriptWords.{words_of, without_return}
 use Rattle.ram_text.specs.ScriptReading.{◌>>=◌, only_word, first_number, only_number, fate_of, form_of, press_of, power_of, fail_of, wear_of, cut_of, tick_of, scrub_of, command_of, command_block_of, payload_of, line_by, line_of, reading_of}
 use Rattle.ram_text.specs.Faults.{IsFault, IsFaultWord, fault_by, fault_of, fault_in}
@@ -10,7 +11,8 @@ use Rattle.ram_text.specs.declared.script.Line.TheVariants.{Empty, Press, Power,
 use Rattle.ram_text.specs.declared.script.Form.{Form}
 use Rattle.ram_text.specs.declared.script.Form.TheVariants as forms
 use Rattle.ram_text.proofs.ScriptReadings.{bind_some, tested_some}
-use Rattle.ram_text.proofs.Forms.{some_same, pair_same, alone_found, line_found, line_given}
+use Rattle.ram_text.proofs.ReadsBy.{some_same, pair_same}
+use Rattle.ram_text.proofs.Forms.{alone_found, line_found, line_given}
 
 -- ---- which of the forms are faults
 
@@ -66,7 +68,7 @@ unfolding command_of
 no_command [] line payload h fault = cc
 no_command (word ∷ words) line payload h fault =
     let cdb = bind_some (command_block_of word) _ (line, payload) h in
-    let put = bind_some (payload_of cdb.0 words) _ (line, payload) cdb.2 in
+    let put = bind_some (payload_of (out_length_of cdb.0) words) _ (line, payload) cdb.2 in
     subst IsFault (sym (pair_same (Command cdb.0) line put.0 payload put.2).0) fault
 
 -- ---- a fault is a line, and each line that is one is a fault
@@ -94,18 +96,35 @@ module _ (word : List ℕ) (words : List (List ℕ)) (line : Line) where
   by_form forms.Scrub is fault = absurd (no_scrub words line (alone_found (scrub_of words) line [] is).0 fault)
   by_form forms.Command is fault = absurd (no_command words line [] is fault)
 
-fault_reads : (words : List (List ℕ)) (line : Line) → fault_of words ≡ Some line → (line_of words ≡ Some (line, [])) × IsFault line
+pub fault_reads : (words : List (List ℕ)) (line : Line) → fault_of words ≡ Some line → (line_of words ≡ Some (line, [])) × IsFault line
 unfolding fault_of
 fault_reads [] line h = cc
 fault_reads (word ∷ words) line h =
     let form = bind_some (form_of word) (fault_by words) line h in behind_form word words line form.0 form.1 form.2
 
-fault_given : (words : List (List ℕ)) (line : Line) → line_of words ≡ Some (line, []) → IsFault line → fault_of words ≡ Some line
+pub fault_given : (words : List (List ℕ)) (line : Line) → line_of words ≡ Some (line, []) → IsFault line → fault_of words ≡ Some line
 unfolding line_of fault_of
 fault_given [] line h fault = absurd (subst IsFault (sym (pair_same Empty line [] [] h).0) fault)
 fault_given (word ∷ words) line h fault =
     let form = bind_some (form_of word) (line_by words) (line, []) h in
     ap (λ (o : Option Form). o >>= fault_by words) form.1 ∙ by_form word words line form.0 form.2 fault
+
+-- a fault has no data
+without_data : (form : Form) (words : List (List ℕ)) (line : Line) (payload : List ℕ) → line_by words form ≡ Some (line, payload) → IsFault line → [] ≡ payload
+without_data forms.Press words line payload h fault = (alone_found (press_of words) line payload h).1
+without_data forms.Power words line payload h fault = (alone_found (power_of words) line payload h).1
+without_data forms.Fail words line payload h fault = (alone_found (fail_of words) line payload h).1
+without_data forms.Wear words line payload h fault = (alone_found (wear_of words) line payload h).1
+without_data forms.Cut words line payload h fault = (alone_found (cut_of words) line payload h).1
+without_data forms.Tick words line payload h fault = (alone_found (tick_of words) line payload h).1
+without_data forms.Scrub words line payload h fault = (alone_found (scrub_of words) line payload h).1
+without_data forms.Command words line payload h fault = absurd (no_command words line payload h fault)
+
+pub fault_has_no_data : (words : List (List ℕ)) (line : Line) (payload : List ℕ) → line_of words ≡ Some (line, payload) → IsFault line → [] ≡ payload
+unfolding line_of
+fault_has_no_data [] line payload h fault = absurd (subst IsFault (sym (pair_same Empty line [] payload h).0) fault)
+fault_has_no_data (word ∷ words) line payload h fault =
+    let form = bind_some (form_of word) (line_by words) (line, payload) h in without_data form.0 words line payload form.2 fault
 
 -- ---- the word, without its carriage return
 

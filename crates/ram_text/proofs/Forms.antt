@@ -1,16 +1,15 @@
 -- Each form of a line is read as what the language says, and nothing else is.
-use Rattle.std.proofs.Common.{◌≡◌, ℕ, ◌<◌, ◌⊎◌, inl, inr, true, false, eqb, ltb, Option, Some, None, Result, List, [], ◌∷◌, get_or, refl, sym, ◌∙◌, ap, subst, arith, codes}
+use Rattle.std.proofs.Common.{◌≡◌, ℕ, ◌<◌, inl, inr, true, false, ltb, Option, Some, None, Result, List, [], ◌∷◌, refl, sym, ◌∙◌, ap, subst, arith, codes}
 use Rattle.std.specs.Option.{ok_or}
 use Rattle.std.specs.Result.{MatchResult}
 use Rattle.std.specs.Str.{bytes_eq}
-use Rattle.std.proofs.lemmas.Bool.{eq-eqb, eqb-true}
 use Rattle.std.proofs.lemmas.Bool.Decides.{nat_tests}
 use Rattle.std.proofs.lemmas.Slice.Eq.{bytes_eq-Decides}
 use Rattle.model_commands.specs.Commands.{out_length_of}
 use Rattle.model_medium.specs.declared.Fate.{Fate}
 use Rattle.model_medium.specs.declared.Fate.TheVariants.{Old, New, Torn}
-use Rattle.ram_text.specs.ScriptWords.{words_of, without_return, IsNumber}
-use Rattle.ram_text.specs.Script.{Reads, IsForm, IsCommandBlock, IsFilled, IsCountedUp, IsSpelled, fate_word, filled, counted_up}
+use Rattle.ram_text.specs.ScriptWords.{without_return, IsNumber}
+use Rattle.ram_text.specs.Script.{Reads, IsForm, IsCommandBlock, AreNamed, fate_word, filled, counted_up}
 use Rattle.ram_text.specs.ScriptReading.{◌>>=◌, number_of, hex_byte_of, command_block_of, only_word, first_number, only_number, fate_of, payload_kind, form_of, press_of, power_of, fail_of, wear_of, cut_of, tick_of, scrub_of, payload_by, payload_of, command_of, alone, line_by, line_of, reading_of, Puts}
 use Rattle.ram_text.specs.declared.script.Unread.{Unread}
 use Rattle.ram_text.specs.declared.script.Line.{Line}
@@ -19,6 +18,7 @@ use Rattle.ram_text.specs.declared.script.Form.{Form}
 use Rattle.ram_text.specs.declared.script.Form.TheVariants as forms
 use Rattle.ram_text.specs.declared.payload.Kind.{Kind}
 use Rattle.ram_text.specs.declared.payload.Kind.TheVariants as kinds
+use Rattle.ram_text.proofs.ReadsBy.{pair_same, reads_found, reads_given, one_by, parsed_by}
 use Rattle.ram_text.proofs.ScriptReadings.{bind_some, tested_some, chosen, some_map, number_found, number_given, hex_found, hex_given, byte_found, byte_given, block_found, block_given}
 
 -- the words that name the forms
@@ -39,7 +39,7 @@ kind_word kinds.Count = codes "count"
 kind_word kinds.Hex = codes "hex"
 
 -- a word that passed the test, as the name of what it chose
-named : {A : Type 0} (word_for : A → List ℕ) (word text : List ℕ) (x y : A) → bytes_eq word text ≡ true → text ≡ word_for x → x ≡ y → word ≡ word_for y
+pub named : {A : Type 0} (word_for : A → List ℕ) (word text : List ℕ) (x y : A) → bytes_eq word text ≡ true → text ≡ word_for x → x ≡ y → word ≡ word_for y
 named word_for word text x y test is same = (bytes_eq-Decides word text).0 test ∙ is ∙ ap word_for same
 
 form_named : (word : List ℕ) (f : Form) → form_of word ≡ Some f → word ≡ form_word f
@@ -96,18 +96,18 @@ fate_given word New h = ap fate_of h
 fate_given word Torn h = ap fate_of h
 
 -- the only word, and the first number
-only_found : (words : List (List ℕ)) (word : List ℕ) → only_word words ≡ Some word → words ≡ word ∷ []
+pub only_found : (words : List (List ℕ)) (word : List ℕ) → only_word words ≡ Some word → words ≡ word ∷ []
 only_found [] word h = cc
 only_found (w ∷ []) word h = cc
 only_found (w ∷ v ∷ words) word h = cc
 
-first_found : (words : List (List ℕ)) (found : ℕ × List (List ℕ)) → first_number words ≡ Some found → (word : List ℕ) × (words ≡ word ∷ found.1) × IsNumber word found.0
+pub first_found : (words : List (List ℕ)) (found : ℕ × List (List ℕ)) → first_number words ≡ Some found → (word : List ℕ) × (words ≡ word ∷ found.1) × IsNumber word found.0
 first_found [] found h = cc
 first_found (word ∷ words) found h =
     let f = some_map (λ (n : ℕ). (n, words)) (number_of word) found h in
     (word, ap (λ (p : ℕ × List (List ℕ)). word ∷ p.1) f.2, subst (λ (p : ℕ × List (List ℕ)). IsNumber word p.0) f.2 (number_found word f.0 f.1))
 
-last_found : (words : List (List ℕ)) (n : ℕ) → only_number words ≡ Some n → (word : List ℕ) × (words ≡ word ∷ []) × IsNumber word n
+pub last_found : (words : List (List ℕ)) (n : ℕ) → only_number words ≡ Some n → (word : List ℕ) × (words ≡ word ∷ []) × IsNumber word n
 last_found words n h =
     let f = bind_some (only_word words) number_of n h in
     (f.0, only_found words f.0 f.1, number_found f.0 n f.2)
@@ -118,7 +118,7 @@ moved word words words' line line' same is h =
     let l : line' ≡ line = cc in
     subst (λ (ws : List (List ℕ)). IsForm (word ∷ ws) line []) (sym same) (subst (λ (l : Line). IsForm (word ∷ words') l []) l h)
 
-press_found : (words : List (List ℕ)) (line : Line) → press_of words ≡ Some line → IsForm (codes "press" ∷ words) line []
+pub press_found : (words : List (List ℕ)) (line : Line) → press_of words ≡ Some line → IsForm (codes "press" ∷ words) line []
 unfolding press_of
 press_found words line h =
     let zones = bind_some (first_number words) _ line h in
@@ -178,44 +178,40 @@ scrub_found (w ∷ []) line h =
 scrub_found (w ∷ v ∷ words) line h = cc
 
 -- the data of each kind
-payload_found : (cdb word digits : List ℕ) (k : Kind) (payload : List ℕ) → word ≡ kind_word k → payload_by cdb digits k ≡ Some payload → IsFilled cdb word digits payload ⊎ IsCountedUp cdb word digits payload ⊎ IsSpelled word digits payload
-payload_found cdb word digits kinds.Fill payload is h =
+payload_found : (due : ℕ) (word digits : List ℕ) (k : Kind) (payload : List ℕ) → word ≡ kind_word k → payload_by due digits k ≡ Some payload → AreNamed due word digits payload
+payload_found due word digits kinds.Fill payload is h =
     let byte = bind_some (hex_byte_of digits) _ payload h in
-    let same : filled byte.0 (out_length_of cdb) ≡ payload = cc (byte.2) in
+    let same : filled byte.0 due ≡ payload = cc (byte.2) in
     inl (record { named = is; byte = byte.0; digits_are = byte_found digits byte.0 byte.1; payload_is = sym same })
-payload_found cdb word digits kinds.Count payload is h =
+payload_found due word digits kinds.Count payload is h =
     let byte = bind_some (hex_byte_of digits) _ payload h in
-    let same : counted_up byte.0 (out_length_of cdb) ≡ payload = cc (byte.2) in
+    let same : counted_up byte.0 due ≡ payload = cc (byte.2) in
     inr (inl (record { named = is; byte = byte.0; digits_are = byte_found digits byte.0 byte.1; payload_is = sym same }))
-payload_found cdb word digits kinds.Hex payload is h =
+payload_found due word digits kinds.Hex payload is h =
     inr (inr (record { named = is; digits_are = hex_found digits payload h }))
 
--- what the same pairs have
-pub some_same : {A : Type 0} (x y : A) → Some x ≡ Some y → x ≡ y
-some_same x y h = cc
+-- the data that two words name
+pub named_found : (due : ℕ) (word : List ℕ) (words : List (List ℕ)) (payload : List ℕ) → payload_of due (word ∷ words) ≡ Some payload
+    → (digits : List ℕ) × (words ≡ digits ∷ []) × AreNamed due word digits payload
+unfolding payload_of
+named_found due word words payload h =
+    let digits = bind_some (only_word words) _ payload h in
+    let k = bind_some (payload_kind word) _ payload digits.2 in
+    (digits.0, only_found words digits.0 digits.1, payload_found due word digits.0 k.0 payload (kind_named word k.0 k.1) k.2)
 
-pub pair_same : (a b : Line) (p q : List ℕ) → ◌≡◌ {A = Option (Line × List ℕ)} (Some (a, p)) (Some (b, q)) → (a ≡ b) × (p ≡ q)
-pair_same a b p q h =
-    let x : Line × List ℕ = (a, p) in
-    let y : Line × List ℕ = (b, q) in
-    let e : x ≡ y = some_same x y h in
-    (ap (λ (t : Line × List ℕ). t.0) e, ap (λ (t : Line × List ℕ). t.1) e)
-
-command_by : (word cdb : List ℕ) (words : List (List ℕ)) (payload : List ℕ) → IsCommandBlock word cdb → payload_of cdb words ≡ Some payload → IsForm (codes "cdb" ∷ word ∷ words) (Command cdb) payload
+command_by : (word cdb : List ℕ) (words : List (List ℕ)) (payload : List ℕ) → IsCommandBlock word cdb → payload_of (out_length_of cdb) words ≡ Some payload → IsForm (codes "cdb" ∷ word ∷ words) (Command cdb) payload
 unfolding payload_of
 command_by word cdb [] payload block h = let same : [] ≡ payload = cc in (refl, block, sym same)
 command_by word cdb (kind ∷ words) payload block h =
-    let digits = bind_some (only_word words) _ payload h in
-    let k = bind_some (payload_kind kind) _ payload digits.2 in
-    subst (λ (ws : List (List ℕ)). IsForm (codes "cdb" ∷ word ∷ kind ∷ ws) (Command cdb) payload) (sym (only_found words digits.0 digits.1))
-    (refl, block, payload_found cdb kind digits.0 k.0 payload (kind_named kind k.0 k.1) k.2)
+    let named = named_found (out_length_of cdb) kind words payload h in
+    subst (λ (ws : List (List ℕ)). IsForm (codes "cdb" ∷ word ∷ kind ∷ ws) (Command cdb) payload) (sym named.1) (refl, block, named.2)
 
 command_found : (words : List (List ℕ)) (line : Line) (payload : List ℕ) → command_of words ≡ Some (line, payload) → IsForm (codes "cdb" ∷ words) line payload
 unfolding command_of
 command_found [] line payload h = cc
 command_found (word ∷ words) line payload h =
     let cdb = bind_some (command_block_of word) _ (line, payload) h in
-    let put = bind_some (payload_of cdb.0 words) _ (line, payload) cdb.2 in
+    let put = bind_some (payload_of (out_length_of cdb.0) words) _ (line, payload) cdb.2 in
     let same = pair_same (Command cdb.0) line put.0 payload put.2 in
     let l : Command cdb.0 ≡ line = same.0 in
     let p : put.0 ≡ payload = same.1 in
@@ -223,7 +219,7 @@ command_found (word ∷ words) line payload h =
     (subst (λ (x : List ℕ). IsForm (codes "cdb" ∷ word ∷ words) (Command cdb.0) x) p (command_by word cdb.0 words put.0 (block_found word cdb.0 cdb.1) put.1))
 
 -- a line that has no data
-pub alone_found : (o : Option Line) (line : Line) (payload : List ℕ) → alone o ≡ Some (line, payload) → (o ≡ Some line) × ([] ≡ payload)
+pub alone_found : {L : Type 0} (o : Option L) (line : L) (payload : List ℕ) → alone o ≡ Some (line, payload) → (o ≡ Some line) × ([] ≡ payload)
 alone_found None line payload h = cc
 alone_found (Some l) line payload h = let same = pair_same l line [] payload h in (ap Some same.0, same.1)
 
@@ -241,7 +237,7 @@ by_form forms.Scrub words line payload h = let a = alone_found (scrub_of words) 
 by_form forms.Command words line payload h = command_found words line payload h
 
 -- what is read is a form
-form_found : (words : List (List ℕ)) (line : Line) (payload : List ℕ) → line_of words ≡ Some (line, payload) → IsForm words line payload
+pub form_found : (words : List (List ℕ)) (line : Line) (payload : List ℕ) → line_of words ≡ Some (line, payload) → IsForm words line payload
 unfolding line_of
 form_found [] line payload h =
     let same = pair_same Empty line [] payload h in
@@ -251,7 +247,7 @@ form_found (word ∷ words) line payload h =
     subst (λ (w : List ℕ). IsForm (w ∷ words) line payload) (sym (form_named word f.0 f.1)) (by_form f.0 words line payload f.2)
 
 -- what is a form is read
-press_given : (a b c : List ℕ) (zones scale psa : ℕ) → IsNumber a zones → IsNumber b scale → IsNumber c psa → press_of (a ∷ b ∷ c ∷ []) ≡ Some (Press zones scale psa)
+pub press_given : (a b c : List ℕ) (zones scale psa : ℕ) → IsNumber a zones → IsNumber b scale → IsNumber c psa → press_of (a ∷ b ∷ c ∷ []) ≡ Some (Press zones scale psa)
 unfolding press_of
 press_given a b c zones scale psa x y z = rw (number_given a zones x, number_given b scale y, number_given c psa z) refl
 
@@ -271,22 +267,22 @@ cut_given a b n fate x some is =
     let test : ltb 0 n ≡ true = grind (arith, nat_tests) in
     rw (number_given a n x, fate_given b fate is, test) refl
 
-payload_given : (cdb word digits payload : List ℕ) → IsFilled cdb word digits payload ⊎ IsCountedUp cdb word digits payload ⊎ IsSpelled word digits payload → payload_of cdb (word ∷ digits ∷ []) ≡ Some payload
+pub payload_given : (due : ℕ) (word digits payload : List ℕ) → AreNamed due word digits payload → payload_of due (word ∷ digits ∷ []) ≡ Some payload
 unfolding payload_of
-payload_given cdb word digits payload (inl is) =
-    ap (λ w. payload_kind w >>= payload_by cdb digits) is.named
-    ∙ ap (λ o. o >>= λ byte. Some (filled byte (out_length_of cdb))) (byte_given digits is.byte is.digits_are) ∙ ap Some (sym is.payload_is)
-payload_given cdb word digits payload (inr (inl is)) =
-    ap (λ w. payload_kind w >>= payload_by cdb digits) is.named
-    ∙ ap (λ o. o >>= λ byte. Some (counted_up byte (out_length_of cdb))) (byte_given digits is.byte is.digits_are) ∙ ap Some (sym is.payload_is)
-payload_given cdb word digits payload (inr (inr is)) =
-    ap (λ w. payload_kind w >>= payload_by cdb digits) is.named ∙ hex_given digits payload is.digits_are
+payload_given due word digits payload (inl is) =
+    ap (λ w. payload_kind w >>= payload_by due digits) is.named
+    ∙ ap (λ o. o >>= λ byte. Some (filled byte due)) (byte_given digits is.byte is.digits_are) ∙ ap Some (sym is.payload_is)
+payload_given due word digits payload (inr (inl is)) =
+    ap (λ w. payload_kind w >>= payload_by due digits) is.named
+    ∙ ap (λ o. o >>= λ byte. Some (counted_up byte due)) (byte_given digits is.byte is.digits_are) ∙ ap Some (sym is.payload_is)
+payload_given due word digits payload (inr (inr is)) =
+    ap (λ w. payload_kind w >>= payload_by due digits) is.named ∙ hex_given digits payload is.digits_are
 
 -- behind the word of a form
 behind : (word text : List ℕ) (words : List (List ℕ)) → word ≡ text → line_of (word ∷ words) ≡ line_of (text ∷ words)
 behind word text words is = ap (λ w. line_of (w ∷ words)) is
 
-form_given : (words : List (List ℕ)) (line : Line) (payload : List ℕ) → IsForm words line payload → line_of words ≡ Some (line, payload)
+pub form_given : (words : List (List ℕ)) (line : Line) (payload : List ℕ) → IsForm words line payload → line_of words ≡ Some (line, payload)
 unfolding line_of power_of tick_of scrub_of command_of payload_of
 form_given [] Empty payload h = ap (λ p. Some (Empty, p)) (sym h)
 form_given (word ∷ []) Power payload h = behind word (codes "power") [] h.0 ∙ ap (λ p. Some (Power, p)) (sym h.1)
@@ -305,39 +301,21 @@ form_given (word ∷ a ∷ b ∷ []) (Cut n fate) payload h =
 form_given (word ∷ a ∷ b ∷ c ∷ []) (Press zones scale psa) payload h =
     behind word (codes "press") (a ∷ b ∷ c ∷ []) h.0 ∙ ap alone (press_given a b c zones scale psa h.1 h.2 h.3) ∙ ap (λ p. Some (Press zones scale psa, p)) (sym h.4)
 form_given (word ∷ a ∷ b ∷ c ∷ []) (Command cdb) payload h =
-    behind word (codes "cdb") (a ∷ b ∷ c ∷ []) h.0 ∙ rw (block_given a cdb h.1) (ap (λ o. o >>= λ p. Some (Command cdb, p)) (payload_given cdb b c payload h.2))
+    behind word (codes "cdb") (a ∷ b ∷ c ∷ []) h.0 ∙ rw (block_given a cdb h.1) (ap (λ o. o >>= λ p. Some (Command cdb, p)) (payload_given (out_length_of cdb) b c payload h.2))
 form_given _ _ payload h = absurd h
 
 -- the whole line
 pub line_found : (line : List ℕ) (read : Line) (payload : List ℕ) → reading_of (without_return line) ≡ Some (read, payload) → Reads line read payload
-line_found line read payload h =
-    elim (chosen (eqb (get_or (without_return line) 0 0) 35) (Empty, []) (line_of (words_of (without_return line))) (read, payload) h) [
-      | inl t ↦
-          inl (record { sign = eqb-true _ 35 t.0; nothing = sym (ap (λ (p : Line × List ℕ). p.0) t.1); no_payload = sym (ap (λ (p : Line × List ℕ). p.1) t.1) })
-      | inr t ↦ inr (record { no_sign = λ is. let e = eq-eqb _ 35 is in cc (t.0); form = form_found (words_of (without_return line)) read payload t.1 })
-    ]
+line_found = reads_found Empty IsForm line_of form_found form_given
 
 pub line_given : (line : List ℕ) (read : Line) (payload : List ℕ) → Reads line read payload → reading_of (without_return line) ≡ Some (read, payload)
-line_given line read payload (inl is) =
-    rw (eq-eqb (get_or (without_return line) 0 0) 35 is.sign) (let l = is.nothing in let p = is.no_payload in cc)
-line_given line read payload (inr is) =
-    rw (sign_missed (get_or (without_return line) 0 0) is.no_sign) (form_given (words_of (without_return line)) read payload is.form)
-  where
-    sign_missed : (byte : ℕ) → (byte ≡ 35 → ⊥) → eqb byte 35 ≡ false
-    sign_missed byte ne = grind (arith, nat_tests)
+line_given = reads_given Empty IsForm line_of form_found form_given
 
 -- a line has at most one reading
 pub one_reading : (line : List ℕ) (a b : Line) (p q : List ℕ) → Reads line a p → Reads line b q → (a ≡ b) × (p ≡ q)
-one_reading line a b p q first second =
-    pair_same a b p q (sym (line_given line a p first) ∙ line_given line b q second)
+one_reading = one_by Empty IsForm line_of form_found form_given
 
 -- what was read is what the line means, and a line that was not read means nothing
 pub parsed : (o : Option Line) (line body payload : List ℕ) (r : Result Line Unread) (unread : Unread) → body ≡ without_return line → Puts (reading_of body) o payload → r ≡ ok_or o unread
     → MatchResult r (λ read. Reads line read payload) (λ _. ((read : Line) (bytes : List ℕ) → ¬ Reads line read bytes) × (payload ≡ []))
-parsed None line body payload r unread is puts same =
-    let nothing : reading_of (without_return line) ≡ None = ap reading_of (sym is) ∙ puts.0 in
-    subst (λ (x : Result Line Unread). MatchResult x (λ read. Reads line read payload) (λ _. ((read : Line) (bytes : List ℕ) → ¬ Reads line read bytes) × (payload ≡ []))) (sym same)
-    (λ read bytes reads. let e = sym nothing ∙ line_given line read bytes reads in cc (e), puts.1)
-parsed (Some read) line body payload r unread is puts same =
-    subst (λ (x : Result Line Unread). MatchResult x (λ read. Reads line read payload) (λ _. ((read : Line) (bytes : List ℕ) → ¬ Reads line read bytes) × (payload ≡ []))) (sym same)
-    (line_found line read payload (ap reading_of (sym is) ∙ puts))
+parsed = parsed_by Empty IsForm line_of form_found form_given

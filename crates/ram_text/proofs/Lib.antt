@@ -6,7 +6,9 @@ pub mod WordSteps
 pub mod HexPairs
 pub mod HexSteps
 pub mod ScriptReadings
+pub mod ReadsBy
 pub mod Forms
 pub mod Faults
+pub mod MirrorForms
 pub mod Limits
 pub mod AsksOpen

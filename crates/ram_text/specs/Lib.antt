@@ -7,3 +7,5 @@ pub mod ScriptWords
 pub mod Script
 pub mod ScriptReading
 pub mod Faults
+pub mod MirrorScript
+pub mod MirrorReading

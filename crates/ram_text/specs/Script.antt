@@ -23,24 +23,29 @@ filled byte n = replicate n byte
 abbrev pub counted_up : ℕ → ℕ → List ℕ
 counted_up byte n = map (λ offset. (byte + offset / 2048) % 256) (range_with_len 0 n)
 
--- `fill XX`: the data that the command takes are this byte (this project's own)
-pub record IsFilled (cdb word digits payload : List ℕ) : Type 0 where
+-- `fill XX`: as many bytes as are due, each this one (this project's own)
+pub record IsFilled (due : ℕ) (word digits payload : List ℕ) : Type 0 where
   pub named : word ≡ codes "fill"
   pub byte : ℕ
   pub digits_are : IsHex digits (byte ∷ [])
-  pub payload_is : payload ≡ filled byte (out_length_of cdb)
+  pub payload_is : payload ≡ filled byte due
 
--- `count XX`: the data that the command takes count up by sectors from this byte (this project's own)
-pub record IsCountedUp (cdb word digits payload : List ℕ) : Type 0 where
+-- `count XX`: as many bytes as are due, which count up by sectors from this one (this project's own)
+pub record IsCountedUp (due : ℕ) (word digits payload : List ℕ) : Type 0 where
   pub named : word ≡ codes "count"
   pub byte : ℕ
   pub digits_are : IsHex digits (byte ∷ [])
-  pub payload_is : payload ≡ counted_up byte (out_length_of cdb)
+  pub payload_is : payload ≡ counted_up byte due
 
 -- `hex HEX`: exactly these data (this project's own)
 pub record IsSpelled (word digits payload : List ℕ) : Type 0 where
   pub named : word ≡ codes "hex"
   pub digits_are : IsHex digits payload
+
+-- the data that two words name, in one of the three ways, where so many bytes are due (this project's own)
+abbrev pub AreNamed : ℕ → (word digits payload : List ℕ) → Type 0
+AreNamed due word digits payload =
+    IsFilled due word digits payload ⊎ IsCountedUp due word digits payload ⊎ IsSpelled word digits payload
 
 -- a command block of 1 to 16 bytes (this project's own)
 pub record IsCommandBlock (digits cdb : List ℕ) : Type 0 where
@@ -65,22 +70,26 @@ IsForm (word ∷ []) (Scrub false) payload = (word ≡ codes "scrub") × (payloa
 IsForm (word ∷ a ∷ []) (Scrub true) payload = (word ≡ codes "scrub") × (a ≡ codes "all") × (payload ≡ [])
 IsForm (word ∷ a ∷ []) (Command cdb) payload = (word ≡ codes "cdb") × IsCommandBlock a cdb × (payload ≡ [])
 IsForm (word ∷ a ∷ b ∷ c ∷ []) (Command cdb) payload =
-    (word ≡ codes "cdb") × IsCommandBlock a cdb
-    × (IsFilled cdb b c payload ⊎ IsCountedUp cdb b c payload ⊎ IsSpelled b c payload)
+    (word ≡ codes "cdb") × IsCommandBlock a cdb × AreNamed (out_length_of cdb) b c payload
 IsForm _ _ payload = ⊥
 
 -- a line that begins with a number sign says nothing (this project's own)
-pub record IsComment (line : List ℕ) (read : Line) (payload : List ℕ) : Type 0 where
+pub record IsComment {L : Type 0} (empty : L) (line : List ℕ) (read : L) (payload : List ℕ) : Type 0 where
   pub sign : slice_index line 0 ≡ number_sign
-  pub nothing : read ≡ Empty
+  pub nothing : read ≡ empty
   pub no_payload : payload ≡ []
 
--- every other line is one of the forms (this project's own)
-pub record IsOther (line : List ℕ) (read : Line) (payload : List ℕ) : Type 0 where
+-- every other line is one of the forms of its language (this project's own)
+pub record IsOther {L : Type 0} (Forms : List (List ℕ) → L → List ℕ → Type 0) (line : List ℕ) (read : L) (payload : List ℕ) : Type 0 where
   pub no_sign : ¬ (slice_index line 0 ≡ number_sign)
-  pub form : IsForm (words_of line) read payload
+  pub form : Forms (words_of line) read payload
 
--- What a line means, without its line feed, and the data that go with it; a carriage return at its end is dropped.
--- (This project's own.)
+-- What a line means in the language that has these forms, without its line feed, and the data that go with it; a carriage return at its
+-- end is dropped. (This project's own.)
+abbrev pub ReadsBy : {L : Type 0} → L → (List (List ℕ) → L → List ℕ → Type 0) → List ℕ → L → List ℕ → Type 0
+ReadsBy empty Forms line read payload =
+    IsComment empty (without_return line) read payload ⊎ IsOther Forms (without_return line) read payload
+
+-- what a line of a script for one disc means (this project's own)
 abbrev pub Reads : List ℕ → Line → List ℕ → Type 0
-Reads line read payload = IsComment (without_return line) read payload ⊎ IsOther (without_return line) read payload
+Reads line read payload = ReadsBy Empty IsForm line read payload

@@ -136,30 +136,30 @@ scrub_of [] = Some (Scrub false)
 scrub_of (word ∷ []) = if bytes_eq word (codes "all") then Some (Scrub true) else None
 scrub_of (word ∷ next ∷ words) = None
 
--- the data of each kind (this project's own)
-abbrev pub payload_by : List ℕ → List ℕ → Kind → Option (List ℕ)
-payload_by cdb digits kinds.Fill = hex_byte_of digits >>= λ byte. Some (filled byte (out_length_of cdb))
-payload_by cdb digits kinds.Count = hex_byte_of digits >>= λ byte. Some (counted_up byte (out_length_of cdb))
-payload_by cdb digits kinds.Hex = hex_of digits
+-- the data of each kind, where so many bytes are due (this project's own)
+abbrev pub payload_by : ℕ → List ℕ → Kind → Option (List ℕ)
+payload_by due digits kinds.Fill = hex_byte_of digits >>= λ byte. Some (filled byte due)
+payload_by due digits kinds.Count = hex_byte_of digits >>= λ byte. Some (counted_up byte due)
+payload_by due digits kinds.Hex = hex_of digits
 
--- the data that the words behind a command block name (this project's own)
-unfoldable pub payload_of : List ℕ → List (List ℕ) → Option (List ℕ)
-payload_of cdb [] = Some []
-payload_of cdb (word ∷ words) = do
+-- the data that words name, where so many bytes are due: none, or of one kind (this project's own)
+unfoldable pub payload_of : ℕ → List (List ℕ) → Option (List ℕ)
+payload_of due [] = Some []
+payload_of due (word ∷ words) = do
   digits ← only_word words
   kind ← payload_kind word
-  payload_by cdb digits kind
+  payload_by due digits kind
 
 -- the line that the words behind `cdb` make, with its data (this project's own)
 unfoldable pub command_of : List (List ℕ) → Option (Line × List ℕ)
 command_of [] = None
 command_of (word ∷ words) = do
   cdb ← command_block_of word
-  payload ← payload_of cdb words
+  payload ← payload_of (out_length_of cdb) words
   Some (Command cdb, payload)
 
 -- a line without data (this project's own)
-abbrev pub alone : Option Line → Option (Line × List ℕ)
+abbrev pub alone : {L : Type 0} → Option L → Option (L × List ℕ)
 alone read = option_map (λ line. (line, [])) read
 
 -- the line of each form, by the words behind its first (this project's own)
@@ -178,9 +178,13 @@ unfoldable pub line_of : List (List ℕ) → Option (Line × List ℕ)
 line_of [] = Some (Empty, [])
 line_of (word ∷ words) = form_of word >>= line_by words
 
--- the line, with its data (this project's own)
+-- the line, with its data, in the language whose words are read so (this project's own)
+abbrev pub reading_by : {L : Type 0} → L → (List (List ℕ) → Option (L × List ℕ)) → List ℕ → Option (L × List ℕ)
+reading_by empty by_words line = if slice_index line 0 == number_sign then Some (empty, []) else by_words (words_of line)
+
+-- the line of a script for one disc, with its data (this project's own)
 abbrev pub reading_of : List ℕ → Option (Line × List ℕ)
-reading_of line = if slice_index line 0 == number_sign then Some (Empty, []) else line_of (words_of line)
+reading_of line = reading_by Empty line_of line
 
 -- the data that were put down; none where nothing was read (this project's own)
 abbrev pub PutsDown : {A : Type 0} → Option (List ℕ) → Option A → List ℕ → Type 0

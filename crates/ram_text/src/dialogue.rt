@@ -2,14 +2,15 @@
 //! nothing is asked for while text is gathered for the sink.
 ghost use Rattle.std.specs.Prelude.{◌≡◌, ◌+◌, ◌≤◌, IfOk};
 ghost use Rattle.ram_report.specs.ReportLines.{event_text, answer_text, last_text, IsPrinted, IsAddressed};
+ghost use Rattle.ram_report.specs.MirrorLines.{mirror_text};
 ghost use Rattle.ram_text.specs.declared.dialogue.TheConstants.{DIALOGUE_MEMORY};
 
 use crate::lines::{LineReader, NextLine, ROOM};
 use ram_bytes::{Budget, Cdb, MemoryRefused};
 use ram_outside::Conversation;
 use ram_report::{
-    Event, LastLine, Print, ReportWriter, SinkFailed, WRITER_MEMORY, print_answer, print_event,
-    print_last,
+    Event, LastLine, MirrorEvent, Print, ReportWriter, SinkFailed, WRITER_MEMORY, print_answer,
+    print_event, print_last, print_mirror,
 };
 use ram_sense::Answer;
 
@@ -139,6 +140,27 @@ impl<'a, T: Conversation> Dialogue<'a, T> {
             number,
             event,
             found,
+        )
+    }
+
+    /// Prints the answer to the line for a mirror of this number, and behind that of a read its sectors.
+    ///
+    /// # Clauses
+    ///
+    /// - `Tells`: As the calls of these names. Nothing was asked for.
+    ///
+    /// # Answers
+    ///
+    /// As for `Dialogue::print_answer`.
+    pub fn print_mirror(&mut self, number: u64, event: &MirrorEvent, shown: &[u8]) -> Print
+        ensures { Tells T.Conversation T.Sink.Sink self.old self.new (mirror_text number event.now shown.now) result }
+    {
+        print_mirror(
+            &mut self.room.writer,
+            self.talk.report_mut(),
+            number,
+            event,
+            shown,
         )
     }
 

@@ -5,7 +5,9 @@ ghost use Rattle.ram_text.specs.Lines.{GivesLine, LineIsTooLong, ScriptIsTooLong
 ghost use Rattle.ram_text.specs.Script.{Reads};
 ghost use Rattle.ram_text.specs.declared.lines.TheConstants.{LINE_LIMIT, SCRIPT_LIMIT};
 ghost use Rattle.ram_text.specs.declared.payload.TheConstants.{PAYLOAD_ROOM};
+ghost use Rattle.ram_text.specs.MirrorScript.{MirrorReads};
 ghost use Rattle.ram_text.specs.declared.script.Line.{Line as Read};
+ghost use Rattle.ram_text.specs.declared.mirror.MirrorLine.{MirrorLine as ReadOfMirror};
 
 /// How many bytes a line has at most, a script, and the data of a command.
 pub fn limits_are_these()
@@ -27,6 +29,12 @@ pub fn a_limit_is_reported_where_it_is_passed_first()
 pub fn a_line_has_one_reading()
     ensures { (line : List ℕ) (a b : Read) (p q : List ℕ)
         → Reads line a p → Reads line b q → (a ≡ b) × (p ≡ q) }
+{}
+
+/// A line for a mirror has at most one meaning, and the data that go with it are determined too.
+pub fn a_line_for_a_mirror_has_one_reading()
+    ensures { (line : List ℕ) (a b : ReadOfMirror) (p q : List ℕ)
+        → MirrorReads line a p → MirrorReads line b q → (a ≡ b) × (p ≡ q) }
 {}
 
 /// The words of a line are what stands between its spaces, however many these are, before, between and after them.

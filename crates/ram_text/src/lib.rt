@@ -1,7 +1,7 @@
 //! The lines of a script, and a conversation line by line: the script and its report.
 //!
 //! The pages of definitions that matter: `specs/Lines.antt` (what the next line is), `specs/Script.antt` (what a line reads as),
-//! `specs/Dialogue.antt` (how lines and answers come and go).
+//! `specs/MirrorScript.antt` (what a line for a mirror of two discs does), `specs/Dialogue.antt` (how lines and answers come and go).
 //!
 //! # What is proved
 //!
@@ -25,17 +25,22 @@
 //!    `line_by`. `proofs/Forms.antt`: that this is what `specs/Script.antt` says, in `form_word`, `form_named`, a lemma beside
 //!    `power_found`, `by_form` and `form_given`.
 //! 3. `ram_report`: the words of its answers. `ram_machine`: what the line does.
+//!
+//! A line of a script for a mirror (`parse_mirror`) stands in `specs/MirrorScript.antt`, `specs/MirrorReading.antt`, `src/mirror.rt` and
+//! `proofs/MirrorForms.antt` in the same way. Words, numbers, data, and the lines that make a disc fail are the same.
 #![tactic(auto)]
 
 pub mod dialogue;
 pub mod laws;
 pub mod lines;
+pub mod mirror;
 pub mod payload;
 pub mod script;
 mod words;
 
 pub use dialogue::{DIALOGUE_MEMORY, Dialogue, DialogueRoom};
 pub use lines::{LINE_LIMIT, LineReader, NextLine, SCRIPT_LIMIT};
+pub use mirror::{MirrorLine, parse_mirror};
 pub use payload::PAYLOAD_ROOM;
 pub use script::{Line, Unread, parse_fault, parse_line};
 pub use words::{are_digits, decimal};

@@ -1,4 +1,4 @@
-//! The data that go with a command, as a line of the script names them.
+//! The data that go with a line, as its words name them.
 ghost use Rattle.std.specs.Prelude.{◌≡◌, ◌≤◌, ◌-◌, ◌/◌, None, Some, MatchBool, [], ◌++◌, unwrap_or, length, replicate, vec_len, vec_capacity};
 ghost use Rattle.hex.specs.Hex.{hex_digit_value};
 ghost use Rattle.ram_text.specs.ScriptWords.{words_of};
@@ -9,7 +9,6 @@ ghost use Rattle.ram_text.specs.declared.lines.TheConstants.{LINE_LIMIT};
 
 use crate::words::{last_word, next_word};
 use ram_bytes::{CDB_LIMIT, Cdb, SECTOR_BYTES};
-use ram_cdb::out_length;
 
 /// The room that the data of any line fit in: 1,024 sectors.
 pub const PAYLOAD_ROOM: usize = 2_097_152;
@@ -54,13 +53,14 @@ pub(crate) fn command_block(word: &[u8]) -> Option<Cdb>
     }
 }
 
-/// Puts down the data that the words behind a command block name: none, or of one kind.
+/// Puts down the data that the words name, where so many bytes are due: none, or of one kind.
 #[tactic(auto, unfolding(crate::specs::ScriptReading::payload_of))]
-pub(crate) fn put_payload(cdb: &Cdb, words: &[u8], payload: &mut Vec<u8>) -> Option<()>
+pub(crate) fn put_payload(due: usize, words: &[u8], payload: &mut Vec<u8>) -> Option<()>
+    requires bound { due ≤ PAYLOAD_ROOM }
     requires short { length words.now ≤ LINE_LIMIT }
     requires empty { payload.old.items ≡ [] }
     requires room { PAYLOAD_ROOM ≤ vec_capacity payload.old }
-    ensures read { PutsDown (payload_of cdb.now (words_of words.now)) result payload.new.items }
+    ensures read { PutsDown (payload_of due (words_of words.now)) result payload.new.items }
     ensures room { vec_capacity payload.old ≤ vec_capacity payload.new }
 {
     let Some((word, rest)) = next_word(words) else {
@@ -68,26 +68,27 @@ pub(crate) fn put_payload(cdb: &Cdb, words: &[u8], payload: &mut Vec<u8>) -> Opt
     };
     let digits = last_word(rest)?;
     let kind = kind_named(word)?;
-    put_kind(kind, cdb, digits, payload)
+    put_kind(kind, due, digits, payload)
 }
 
 // Puts down data of this kind.
-fn put_kind(kind: Kind, cdb: &Cdb, digits: &[u8], payload: &mut Vec<u8>) -> Option<()>
+fn put_kind(kind: Kind, due: usize, digits: &[u8], payload: &mut Vec<u8>) -> Option<()>
+    requires bound { due ≤ PAYLOAD_ROOM }
     requires short { length digits.now ≤ LINE_LIMIT }
     requires empty { payload.old.items ≡ [] }
     requires room { PAYLOAD_ROOM ≤ vec_capacity payload.old }
-    ensures read { PutsDown (payload_by cdb.now digits.now kind) result payload.new.items }
+    ensures read { PutsDown (payload_by due digits.now kind) result payload.new.items }
     ensures room { vec_capacity payload.old ≤ vec_capacity payload.new }
 {
     match kind {
         Kind::Fill => {
             let byte = hex_byte(digits)?;
-            grow(out_length(cdb), byte, payload);
+            grow(due, byte, payload);
             Some(())
         }
         Kind::Count => {
             let byte = hex_byte(digits)?;
-            count_up(out_length(cdb), byte, payload);
+            count_up(due, byte, payload);
             Some(())
         }
         Kind::Hex => put_hex(digits, payload),

@@ -12,6 +12,7 @@ use crate::payload::{command_block, put_payload};
 use crate::words::{last_number, last_word, next_number, next_word, without_return_of};
 use model_medium::Fate;
 use ram_bytes::Cdb;
+use ram_cdb::out_length;
 
 /// A line of the script.
 #[derive(Debug, PartialEq, Eq, Drop)]
@@ -143,8 +144,9 @@ fn read_fault(line: &[u8]) -> Option<Line>
     read_fault_words(line)
 }
 
+/// The fault that the words are.
 #[tactic(auto, unfolding(crate::specs::Faults::fault_of))]
-fn read_fault_words(line: &[u8]) -> Option<Line>
+pub(crate) fn read_fault_words(line: &[u8]) -> Option<Line>
     ensures { result ≡ fault_of (words_of line.now) }
 {
     let (word, rest) = next_word(line)?;
@@ -233,8 +235,9 @@ fn form_named(word: &[u8]) -> Option<Form>
     None
 }
 
+/// The line `press` that the words behind its first make.
 #[tactic(auto, unfolding(crate::specs::ScriptReading::press_of))]
-fn press(rest: &[u8]) -> Option<Line>
+pub(crate) fn press(rest: &[u8]) -> Option<Line>
     ensures { result ≡ press_of (words_of rest.now) }
 {
     let (zones, rest) = next_number(rest)?;
@@ -339,6 +342,6 @@ fn command(rest: &[u8], payload: &mut Vec<u8>) -> Option<Line>
 {
     let (word, rest) = next_word(rest)?;
     let cdb = command_block(word)?;
-    put_payload(&cdb, rest, payload)?;
+    put_payload(out_length(&cdb), rest, payload)?;
     Some(Line::Command { cdb })
 }

@@ -51,8 +51,9 @@ pub(crate) fn last_word(line: &[u8]) -> Option<&[u8]>
 
 /// The number of the first word, and what lies behind it.
 pub(crate) fn next_number(line: &[u8]) -> Option<(u32, &[u8])>
-    ensures { MatchOption result (first_number (words_of line.now) ≡ None)
+    ensures found { MatchOption result (first_number (words_of line.now) ≡ None)
         (λ found. first_number (words_of line.now) ≡ Some (found.0, words_of found.1.now)) }
+    ensures shorter { IfSome result (λ found. length found.1.now ≤ length line.now) }
 {
     let (word, rest) = next_word(line)?;
     let value = number(word)?;

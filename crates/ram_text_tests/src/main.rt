@@ -8,10 +8,12 @@ mod data;
 mod escapes;
 mod lines;
 mod made;
+mod mirror;
 mod parsing;
 mod printing;
 
 use crate::lines::{answer_lines, answer_long, answer_made, answer_steps};
+use crate::mirror::{answer_mirror, answer_told};
 use crate::parsing::{answer_digits, answer_parse};
 use crate::printing::answer_print;
 use std::alloc::{AllocError, Global};
@@ -38,6 +40,8 @@ fn answer_row(alloc: Global, row: &str, answer: &mut String) -> Result<(), Alloc
         "steps" => answer_steps(alloc, rest, answer),
         "parse" => answer_parse(alloc, rest, answer),
         "digits" => answer_digits(alloc, rest, answer),
+        "mirror" => answer_mirror(alloc, rest, answer),
+        "told" => answer_told(alloc, rest, answer),
         "print" => answer_print(alloc, rest, answer),
         _ => answer.push_str("no such row"),
     }

@@ -54,7 +54,7 @@ fn reads(cdb: &Cdb) -> bool
 }
 
 /// Prints a line for each whole sector of these, the first of which is sector `lba`.
-fn print_sectors<K: Sink>(
+pub(crate) fn print_sectors<K: Sink>(
     writer: &mut ReportWriter,
     sink: &mut K,
     lba: u32,

@@ -95,7 +95,7 @@ fn print_lost<K: Sink>(
 }
 
 /// Prints the words of an event, after a space, and ends the line.
-fn print_event_words<K: Sink>(
+pub(crate) fn print_event_words<K: Sink>(
     writer: &mut ReportWriter,
     sink: &mut K,
     event: &Event,
