@@ -6,6 +6,7 @@ pub mod BothEnds
 pub mod Image
 pub mod Past
 pub mod Opener
+pub mod Seen
 pub mod Calls
 pub mod Memory
 pub mod MemImage

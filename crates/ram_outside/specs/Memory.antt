@@ -43,11 +43,13 @@ pub record ImageState : Type 0 where
 abbrev pub NextImageCallFails : CallLog → Type 0
 NextImageCallFails log = NextCallFails log ⊎ (0 < log.faults)
 
--- an opener in memory: the image that it still has, the image that was handed back last, the images that it was asked
--- for, in order, and its calls that open one (this project's own)
+-- an opener in memory: the images that it still has, the image that was handed back last and the one before that, the images that it was
+-- asked for, in order, and its calls that open one (this project's own)
 pub record OpenerState : Type 0 where
   pub next : Option ImageState
+  pub after_next : Option ImageState
   pub returned : Option ImageState
+  pub returned_before : Option ImageState
   pub asked : List Asking
   pub calls : CallLog
 
@@ -171,12 +173,12 @@ abbrev pub and_asked_now : Access → List ℕ → OpenerState → OpenerState
 and_asked_now access name opener = record opener { asked = opener.asked ++ asking access name ∷ [] }
 
 -- Exactly what opening this name does of an opener in memory, by its answer: it fails where the call is one that fails,
--- or where the image was given before; or where memory for the name was refused, and then it asked for nothing.
+-- or where no image is left; or where memory for the name was refused, and then it asked for nothing.
 -- (This project's own.)
 abbrev pub OpensExactly : Access → List ℕ → OpenerState → OpenerState → Opened ImageState → Type 0
 OpensExactly access name old new (openings.Image image) =
     (¬ NextCallFails old.calls) × (old.next ≡ Some image)
-    × (new ≡ record (and_asked_now access name old) { next = None; calls = with_call old.calls })
+    × (new ≡ record (and_asked_now access name old) { next = old.after_next; after_next = None; calls = with_call old.calls })
 OpensExactly access name old new openings.Failed =
     ((NextCallFails old.calls ⊎ (old.next ≡ None))
     × (new ≡ record (and_asked_now access name old) { calls = with_failed_call old.calls }))
@@ -184,8 +186,13 @@ OpensExactly access name old new openings.Failed =
 
 -- the opener after it took this image back (this project's own)
 abbrev pub after_close : ImageState → OpenerState → OpenerState
-after_close image opener = record opener { returned = Some image; calls = with_faults image.calls.faults opener.calls }
+after_close image opener = record opener {
+  returned = Some image;
+  returned_before = opener.returned;
+  calls = with_faults image.calls.faults opener.calls;
+}
 
 -- what is known of an opener in memory, which is all of it (this project's own)
 abbrev pub view_of : OpenerState → OpenerView ImageState
-view_of opener = opener_view opener.next opener.returned (Some opener.asked) opener.calls.faults
+view_of opener =
+    opener_view opener.next opener.after_next opener.returned opener.returned_before (Some opener.asked) opener.calls.faults

@@ -166,7 +166,7 @@ where
     /// Opens the file of this path for this.
     fn open_for(&mut self, name: &str, access: Access) -> Opened<FileImage<R::File>>
         ensures rule { OpenRule (λ i. i) access name.now
-            (opener_view None None None self.old) (opener_view None None None self.new) result }
+            (opener_view None None None None None self.old) (opener_view None None None None None self.new) result }
         ensures count { self.new ≡ count_after_open result self.old }
     {
         match count_error(open_file(&self.rt, name, access), &mut self.faults) {
@@ -205,7 +205,11 @@ where
 
     ghost next = { λ _. None };
 
+    ghost after_next = { λ _. None };
+
     ghost returned = { λ _. None };
+
+    ghost returned_before = { λ _. None };
 
     ghost asked = { λ _. None };
 
@@ -215,7 +219,7 @@ where
     /// stays. One that is locked already is a failure.
     fn open(&mut self, name: &str) -> Opened<FileImage<R::File>>
         ensures rule { OpenRule (λ i. i) ReadWrite name.now
-            (opener_view None None None self.old) (opener_view None None None self.new) result }
+            (opener_view None None None None None self.old) (opener_view None None None None None self.new) result }
         ensures count { self.new ≡ count_after_open result self.old }
     {
         self.open_for(name, Access::ReadWrite)
@@ -224,7 +228,7 @@ where
     /// Opens the file of this path to be read alone, and locks nothing. Where there is none it fails, and none is made.
     fn open_to_read(&mut self, name: &str) -> Opened<FileImage<R::File>>
         ensures rule { OpenRule (λ i. i) ReadOnly name.now
-            (opener_view None None None self.old) (opener_view None None None self.new) result }
+            (opener_view None None None None None self.old) (opener_view None None None None None self.new) result }
         ensures count { self.new ≡ count_after_open result self.old }
     {
         self.open_for(name, Access::ReadOnly)
@@ -232,7 +236,7 @@ where
 
     fn close(&mut self, image: FileImage<R::File>)
         ensures rule { CloseRule false (λ i. i) image
-            (opener_view None None None self.old) (opener_view None None None self.new) }
+            (opener_view None None None None None self.old) (opener_view None None None None None self.new) }
         ensures count { self.new ≡ counted self.old image }
     {
         self.faults = self.faults.saturating_add(image.faults);

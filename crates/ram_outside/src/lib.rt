@@ -16,8 +16,8 @@
 //!   that failed left. `MemImage::with_past` makes an image that tells its past.
 //! - `MemImage`, `GivesLengthExactly`, `ReadsImageExactly`, `WritesImageExactly`, `ResizesExactly`: Which call fails. A call that
 //!   fails changes no byte of the image, and a read that fails changes none of the slice.
-//! - `MemOpener`, `OpensExactly`, `after_close`: It gives its image once, whatever the name, and keeps each name that it was
-//!   asked for. Where memory for the name is refused it fails, and asked for nothing.
+//! - `MemOpener`, `OpensExactly`, `after_close`: It gives its image, or its two images in order, once each, whatever the name, and
+//!   keeps each name that it was asked for. Where memory for the name is refused it fails, and asked for nothing.
 //! - `Conversation::take`, `AsksNow`: It notes what was left to come and what was written before. The sink is a part of a conversation:
 //!   whoever writes to it changes nothing else of it (`HoldsReport`).
 //! - `MemConversation`: It keeps how it stood whenever more was asked for, unless memory for that is refused; `BothEnds` does not.
@@ -42,9 +42,9 @@
 //!
 //! # What must fail
 //!
-//! `must-fail/` has four wrong changes that the prover refuses: an image that goes on behind a failure, an opener that forgets the
-//! failures of the image that it takes back, a sink that counts a failure and goes on, a failed write that changes a byte outside
-//! its range.
+//! `must-fail/` has five wrong changes that the prover refuses: an image that goes on behind a failure, an opener that forgets the
+//! failures of the image that it takes back, one that loses its second image, a sink that counts a failure and goes on, a failed
+//! write that changes a byte outside its range.
 #![tactic(auto)]
 
 pub mod conversation;

@@ -118,9 +118,9 @@ fn open(
     }
 }
 
-/// Adds the bytes of the image that was handed back last.
-fn add_returned(opener: &MemOpener, answer: &mut String) -> Result<(), AllocError> {
-    match opener.returned() {
+/// Adds the bytes of the image that was handed back.
+fn add_returned(returned: Option<&MemImage>, answer: &mut String) -> Result<(), AllocError> {
+    match returned {
         Some(image) => add_moved(image, Moved::Done, answer),
         None => answer.push_str("none was handed back"),
     }
@@ -153,7 +153,8 @@ fn add_step(
     match step {
         "open" => open(opener, place, answer),
         "close" => close(opener, place, answer),
-        "returned" => add_returned(opener, answer),
+        "returned" => add_returned(opener.returned(), answer),
+        "returned-before" => add_returned(opener.returned_before(), answer),
         _ => make_words(alloc, place, step, answer),
     }
 }
@@ -182,5 +183,16 @@ pub fn answer_image(alloc: Global, words: &str, answer: &mut String) -> Result<(
     let bytes = bytes.as_bytes().to_vec(alloc)?;
     let image = MemImage::new(bytes, numbers_of(alloc, failing)?);
     let mut opener = MemOpener::new(image, numbers_of(alloc, openings)?);
+    add_steps(alloc, &mut opener, steps, answer)
+}
+
+/// `BYTES BYTES FAILING STEP ..`: steps with an opener of two images of these bytes, which fails at these calls.
+pub fn answer_pair(alloc: Global, words: &str, answer: &mut String) -> Result<(), AllocError> {
+    let (first, words) = words.split_once(' ').unwrap_or((words, ""));
+    let (second, words) = words.split_once(' ').unwrap_or((words, ""));
+    let (openings, steps) = words.split_once(' ').unwrap_or((words, ""));
+    let first = MemImage::new(first.as_bytes().to_vec(alloc)?, Vec::new(alloc));
+    let second = MemImage::new(second.as_bytes().to_vec(alloc)?, Vec::new(alloc));
+    let mut opener = MemOpener::pair(first, second, numbers_of(alloc, openings)?);
     add_steps(alloc, &mut opener, steps, answer)
 }

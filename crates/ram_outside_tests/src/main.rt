@@ -9,7 +9,7 @@ mod images;
 mod streams;
 
 use crate::files::{answer_few, answer_file, answer_locked};
-use crate::images::answer_image;
+use crate::images::{answer_image, answer_pair};
 use crate::streams::{answer_copy, answer_sink, answer_source};
 use ram_outside::LockFile;
 use std::io;
@@ -38,6 +38,7 @@ where
         "source" => answer_source(rt.alloc(), rest, answer)?,
         "sink" => answer_sink(rt.alloc(), rest, answer)?,
         "image" => answer_image(rt.alloc(), rest, answer)?,
+        "pair" => answer_pair(rt.alloc(), rest, answer)?,
         "file" => answer_file(rt, rest, answer)?,
         "locked" => answer_locked(rt, rest, answer)?,
         "few-at-once" => answer_few(rt, rest, answer)?,

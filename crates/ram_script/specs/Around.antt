@@ -1,7 +1,8 @@
 -- What is known of a conversation and an opener around a call that runs something, and what is done with them. (This project's own, as all here.)
 use Rattle.std.specs.Prelude.{◌≡◌, ℕ, ◌⊎◌, Option, List, take}
 use Rattle.std.specs.Io.KnownBytes.{append_known}
-use Rattle.ram_outside.specs.Opener.{OpenerView, opener_view, and_asked}
+use Rattle.ram_outside.specs.Opener.{OpenerView, and_asked}
+use Rattle.ram_outside.specs.Seen.{seen_opener}
 use Rattle.ram_outside.specs.declared.opener.Access.{Access}
 use Rattle.ram_outside.specs.declared.opener.Opener.{Ghosts as Openers}
 use Rattle.ram_outside.specs.Sink.{FailsOnce}
@@ -42,7 +43,7 @@ module _ {T K O I : Type 0} (talks : Conversations T K) (sinks : Sinks K) (opene
     written = sinks.written (talks.report talk);
     refused = sinks.refused (talks.report talk);
     asked = talks.asked talk;
-    opener = opener_view (openers.next opener) (openers.returned opener) (openers.asked opener) (openers.faults opener);
+    opener = seen_opener openers opener;
     counts = counts_of (talks.faults talk) (sinks.faults (talks.report talk)) (openers.faults opener);
   }
 

@@ -5,7 +5,7 @@ use Rattle.model_counts.specs.Counts.{Rose}
 use Rattle.model_geometry.specs.declared.kinds.LayoutKind.TheVariants.{OneGroup}
 use Rattle.ram_generate.specs.Script.{script_from}
 use Rattle.ram_outside.specs.Conversation.{Asked}
-use Rattle.ram_outside.specs.Opener.{opener_view}
+use Rattle.ram_outside.specs.Seen.{seen_opener}
 use Rattle.ram_outside.specs.declared.opener.Access.{Access}
 use Rattle.ram_outside.specs.declared.opener.Opener.{Ghosts as Openers}
 use Rattle.ram_outside.specs.declared.sink.Sink.{Ghosts as Sinks}
@@ -93,6 +93,6 @@ module _ {K O I : Type 0} (heard : Heard) (sinks : Sinks K) (openers : Openers O
     written = sinks.written report;
     refused = sinks.refused report;
     asked = heard.asked;
-    opener = opener_view (openers.next opener) (openers.returned opener) (openers.asked opener) (openers.faults opener);
+    opener = seen_opener openers opener;
     counts = counts_of heard.faults (sinks.faults report) (openers.faults opener);
   }

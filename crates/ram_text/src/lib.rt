@@ -1,7 +1,7 @@
 //! The lines of a script, and a conversation line by line: the script and its report.
 //!
 //! The pages of definitions that matter: `specs/Lines.antt` (what the next line is), `specs/Script.antt` (what a line reads as),
-//! `specs/MirrorScript.antt` (what a line for a mirror of two discs does), `specs/Dialogue.antt` (how lines and answers come and go).
+//! `specs/MirrorScript.antt` (the same for a mirror of two discs), `specs/Dialogue.antt` (how lines and answers come and go).
 //!
 //! # What is proved
 //!

@@ -1,4 +1,4 @@
-//! An opener in memory: one image, which it gives once, and the names that it was asked for.
+//! An opener in memory: one image or two, of which it gives each once, and the names that it was asked for.
 ghost use Rattle.std.specs.Prelude.{◌≡◌, true, Some, None, [], if◌then◌else◌};
 ghost use Rattle.std.specs.Option.{option_copied};
 ghost use Rattle.ram_outside.specs.Opener.{OpenRule, CloseRule};
@@ -18,11 +18,13 @@ struct Asked {
     access: Access,
 }
 
-/// An opener that has one image, in memory, whatever the name. It keeps the names that it was asked for.
+/// An opener that has one image or two, in memory, whatever the names. It keeps the names that it was asked for.
 #[derive(Debug, Drop)]
 pub struct MemOpener {
     image: Option<MemImage>,
+    second: Option<MemImage>,
     returned: Option<MemImage>,
+    returned_before: Option<MemImage>,
     asked: Vec<Asked>,
     calls: Calls,
 }
@@ -37,7 +39,9 @@ impl Model for MemOpener {
 
     ghost view = { λ o. record {
       next = option_map unfailed o.image;
+      after_next = option_map unfailed o.second;
       returned = o.returned;
+      returned_before = o.returned_before;
       asked = map (λ one. asking one.access one.name.items) o.asked.items;
       calls = o.calls;
     } };
@@ -49,14 +53,40 @@ impl MemOpener {
     pub fn new(image: MemImage, failing: Vec<u64>) -> MemOpener
         ensures { result ≡ record {
           next = Some (unfailed image);
+          after_next = None;
           returned = None;
+          returned_before = None;
           asked = [];
           calls = no_calls failing.items;
         } }
     {
         MemOpener {
             image: Some(image),
+            second: None,
             returned: None,
+            returned_before: None,
+            asked: Vec::new(*failing.allocator()),
+            calls: Calls::new(failing),
+        }
+    }
+
+    /// Opens these images once each, the first one first, with no failure of them counted. `failing` has the numbers, from 1 on,
+    /// of the calls that open one and fail.
+    pub fn pair(first: MemImage, second: MemImage, failing: Vec<u64>) -> MemOpener
+        ensures { result ≡ record {
+          next = Some (unfailed first);
+          after_next = Some (unfailed second);
+          returned = None;
+          returned_before = None;
+          asked = [];
+          calls = no_calls failing.items;
+        } }
+    {
+        MemOpener {
+            image: Some(first),
+            second: Some(second),
+            returned: None,
+            returned_before: None,
             asked: Vec::new(*failing.allocator()),
             calls: Calls::new(failing),
         }
@@ -73,6 +103,17 @@ impl MemOpener {
         self.returned.as_ref()
     }
 
+    /// The image that was handed back before the last one.
+    ///
+    /// # Answers
+    ///
+    /// - `Some`, `None`: the image that was handed back before the last one, if one was. (clause)
+    pub fn returned_before(&self) -> Option<&MemImage>
+        ensures { option_copied result ≡ self.now.returned_before }
+    {
+        self.returned_before.as_ref()
+    }
+
     /// Keeps what was asked for. Where memory is refused, nothing is kept.
     fn keep_name(&mut self, name: &str, access: Access) -> bool
         ensures { self.new ≡ (if result then and_asked_now access name.now self.old else self.old) }
@@ -83,7 +124,7 @@ impl MemOpener {
         }
     }
 
-    /// Gives the image, where it still has it and the call is none that fails.
+    /// Gives the next image, where it still has one and the call is none that fails.
     fn give(&mut self, name: &str, access: Access) -> Opened<MemImage>
         ensures rule { OpenRule (λ i. i.calls.faults) access name.now (view_of self.old) (view_of self.new) result }
         ensures exactly { OpensExactly access name.now self.old self.new result }
@@ -100,6 +141,7 @@ impl MemOpener {
         }
         match self.image.take() {
             Some(mut image) => {
+                self.image = self.second.take();
                 image.forget_faults();
                 Opened::Image(image)
             }
@@ -118,7 +160,11 @@ impl Opener for MemOpener {
 
     ghost next = { λ o. o.next };
 
+    ghost after_next = { λ o. o.after_next };
+
     ghost returned = { λ o. o.returned };
+
+    ghost returned_before = { λ o. o.returned_before };
 
     ghost asked = { λ o. Some o.asked };
 
@@ -144,6 +190,7 @@ impl Opener for MemOpener {
         ensures exactly { self.new ≡ after_close image self.old }
     {
         self.calls.add_faults(image.faults());
+        self.returned_before = self.returned.take();
         self.returned = Some(image);
     }
 }
