@@ -17,6 +17,8 @@ use Rattle.model_audit.specs.declared.lines.CertificateLine.TheVariants as told
 use Rattle.model_audit.specs.Text.{text_of}
 use Rattle.ram_zones.specs.declared.list_kind.ListKind.{ListKind}
 use Rattle.ram_zones.specs.declared.list_kind.ListKind.TheVariants as kinds
+use Rattle.ram_audit.specs.declared.copies.Part.{Part}
+use Rattle.ram_audit.specs.declared.copies.Part.TheVariants as parts
 use Rattle.model_audit.specs.Certificate.{ListPart, Structure, First, Second, AreCopyLines, is_whole, lost_home_line, TellsLists, IsCertificate}
 use Rattle.ram_lists.specs.Chosen.{AreChosenIn}
 use Rattle.ram_lists.specs.declared.choosing.FoundLists.{FoundLists}
@@ -83,11 +85,17 @@ StateSays cell text states.Other = IsGood cell × ¬ (cell ≡ Good text)
 StateSays cell text states.Unread = (cell ≡ Blank) ⊎ (cell ≡ Torn)
 StateSays cell text states.Dead = cell ≡ Dead
 
--- which part of the lists a block of this kind has
-abbrev pub list_part_of : ListKind → ListPart
-list_part_of kinds.Dds = Structure
-list_part_of kinds.Sdl = First
-list_part_of kinds.SdlTwo = Second
+-- which part of the lists this is
+abbrev pub list_part_of : Part → ListPart
+list_part_of parts.Structure = Structure
+list_part_of parts.First = First
+list_part_of parts.Second = Second
+
+-- in whose blocks it lies
+abbrev pub kind_of : Part → ListKind
+kind_of parts.Structure = kinds.Dds
+kind_of parts.First = kinds.Sdl
+kind_of parts.Second = kinds.SdlTwo
 
 -- The line of a cell was added, whose part of a list has this text.
 pub record AddsCopy (old new : Lines) (shape : Shape) (bytes : Option (List ℕ)) (block : ℕ) (text : List ℕ) : Type 0 where

@@ -5,7 +5,7 @@ ghost use Rattle.model_geometry.specs.Geometry.{total};
 ghost use Rattle.model_lists.specs.Values.{IsLawfulDds, IsLawfulSdl};
 ghost use Rattle.model_lists.specs.Texts.{IsTwo};
 ghost use Rattle.model_audit.specs.Certificate.{IsPartOf, area_cells, list_cells};
-ghost use Rattle.ram_zones.specs.declared.list_kind.ListKind.TheVariants.{SdlTwo};
+ghost use Rattle.ram_audit.specs.declared.copies.Part.TheVariants.{Second};
 ghost use Rattle.ram_zones.specs.ListKind.{list_block};
 ghost use Rattle.ram_dds.specs.Dds.{dds_of};
 ghost use Rattle.ram_sdl.specs.Sdl.{sdl_of};
@@ -13,7 +13,7 @@ ghost use Rattle.ram_image.specs.Medium.{shape_of_medium, world_of, bytes_in};
 ghost use Rattle.ram_lists.specs.Lists.{lists_of};
 ghost use Rattle.ram_audit.specs.declared.telling.TheConstants.{TEXT_ROOM};
 ghost use Rattle.ram_audit.specs.Leaving.{IsUnarmed, LooksOn, FailsLooking};
-ghost use Rattle.ram_audit.specs.Telling.{AddsCopy, AddsCopies, list_part_of, bytes_of};
+ghost use Rattle.ram_audit.specs.Telling.{AddsCopy, AddsCopies, list_part_of, kind_of, bytes_of};
 
 use crate::lines::Lines;
 use crate::looking::{ImageFailed, look_at_copy};
@@ -26,17 +26,39 @@ use ram_lists::Lists;
 use ram_outside::Image;
 use ram_zones::{Geometry, ListKind};
 
+/// Which part of both lists a cell has.
+#[derive(Clone, Copy)]
+pub enum Part {
+    /// The disc definition structure.
+    Structure,
+    /// The first part of the secondary list.
+    First,
+    /// The second part of the secondary list.
+    Second,
+}
+
+/// The list in whose blocks a part lies.
+fn kind_of(part: Part) -> ListKind
+    ensures { result ≡ kind_of part }
+{
+    match part {
+        Part::Structure => ListKind::Dds,
+        Part::First => ListKind::Sdl,
+        Part::Second => ListKind::SdlTwo,
+    }
+}
+
 /// Writes a part of the text of both lists.
-fn encode_part(lists: &Lists, part: ListKind, into: &mut Block)
+fn encode_part(lists: &Lists, part: Part, into: &mut Block)
     requires lawful_dds { IsLawfulDds (dds_of lists.now.dds) }
     requires lawful_sdl { IsLawfulSdl (sdl_of lists.now.sdl) }
-    requires two { part ≡ SdlTwo → IsTwo (sdl_of lists.now.sdl) }
+    requires two { part ≡ Second → IsTwo (sdl_of lists.now.sdl) }
     ensures { IsPartOf (lists_of lists.now) (list_part_of part) into.new }
 {
     match part {
-        ListKind::Dds => lists.dds.encode(into),
-        ListKind::Sdl => lists.sdl.encode(1, into),
-        ListKind::SdlTwo => lists.sdl.encode(2, into),
+        Part::Structure => lists.dds.encode(into),
+        Part::First => lists.sdl.encode(1, into),
+        Part::Second => lists.sdl.encode(2, into),
     }
 }
 
@@ -69,14 +91,14 @@ fn tell_part<I: Image>(
     medium: &mut ImageMedium<I>,
     geometry: &Geometry,
     area: u32,
-    part: ListKind,
+    part: Part,
     lists: &Lists,
     scratch: &mut Scratch,
 ) -> Result<(), ImageFailed>
     requires fits { bytes_of lines.old + 23 ≤ TEXT_ROOM }
     requires lawful_dds { IsLawfulDds (dds_of lists.now.dds) }
     requires lawful_sdl { IsLawfulSdl (sdl_of lists.now.sdl) }
-    requires two { part ≡ SdlTwo → IsTwo (sdl_of lists.now.sdl) }
+    requires two { part ≡ Second → IsTwo (sdl_of lists.now.sdl) }
     requires some { 1 ≤ area }
     requires most { area ≤ 4 }
     requires size { total (shape_of_medium medium.old) ≡ total geometry.now }
@@ -85,12 +107,13 @@ fn tell_part<I: Image>(
     ensures rule { MatchResult result
         (λ done. LooksOn medium.old medium.new
         × AddsCopies lines.old lines.new geometry.now (bytes_in medium.old) (lists_of lists.now)
-        ((list_block geometry.now area part, list_part_of part) ∷ []))
+        ((list_block geometry.now area (kind_of part), list_part_of part) ∷ []))
         (λ failed. FailsLooking medium.old medium.new) }
     ensures len { bytes_of lines.new ≤ bytes_of lines.old + 23 }
 {
     encode_part(lists, part, &mut scratch.text);
-    let block = geometry.list_block(area, part);
+    let kind = kind_of(part);
+    let block = geometry.list_block(area, kind);
     tell_copy(lines, medium, block, &scratch.text, &mut scratch.room)
 }
 
@@ -118,19 +141,19 @@ fn tell_area<I: Image>(
         (λ failed. FailsLooking medium.old medium.new) }
     ensures len { bytes_of lines.new ≤ bytes_of lines.old + 69 }
 {
-    tell_part(lines, medium, geometry, area, ListKind::Dds, lists, scratch)?;
-    tell_part(lines, medium, geometry, area, ListKind::Sdl, lists, scratch)?;
+    tell_part(
+        lines,
+        medium,
+        geometry,
+        area,
+        Part::Structure,
+        lists,
+        scratch,
+    )?;
+    tell_part(lines, medium, geometry, area, Part::First, lists, scratch)?;
     match lists.sdl.version {
         Version::One => Ok(()),
-        Version::Two => tell_part(
-            lines,
-            medium,
-            geometry,
-            area,
-            ListKind::SdlTwo,
-            lists,
-            scratch,
-        ),
+        Version::Two => tell_part(lines, medium, geometry, area, Part::Second, lists, scratch),
     }
 }
 

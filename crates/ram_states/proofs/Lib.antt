@@ -6,6 +6,7 @@ mod FormatCauses
 mod Keeping
 mod Powering
 mod ReadShown
+mod RecordCauses
 mod RewriteCauses
 mod SameKept
 mod TurningOff

@@ -4,6 +4,7 @@ pub mod Formats
 pub mod OneProof
 pub mod Powers
 pub mod Reading
+pub mod Records
 pub mod Shown
 pub mod Sounding
 pub mod Verifying

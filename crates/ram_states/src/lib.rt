@@ -30,7 +30,8 @@
 //! A read, a write and a verification are loops over the parts of their request, in `ram_transfer`. Here the state is taken apart
 //! for one and put together again, and what it did is taken to what a drive shows: `proofs/ReadShown.antt`,
 //! `proofs/VerifyShown.antt`; of a write the loop says it itself. An expansion is one call of `ram_expand`;
-//! `proofs/ExpandCauses.antt` takes its rule to what a drive shows. `src/telling.rt` has the calls that only tell, and
+//! `proofs/ExpandCauses.antt` takes its rule to what a drive shows. The record of the lead is chosen and repaired, or written, by
+//! `ram_copies`; `proofs/RecordCauses.antt` takes that to what a drive shows. `src/telling.rt` has the calls that only tell, and
 //! `src/control.rt` what is done to the medium beside a host's calls. A call that was stopped ends in `stopped` (`src/stops.rt`):
 //! the power is off, what the memory holds does not matter any more, and the outcome tells the cause.
 //!
@@ -61,6 +62,7 @@ mod formats;
 mod laws;
 mod power;
 mod reading;
+mod records;
 mod states;
 mod stops;
 mod telling;

@@ -6,11 +6,11 @@ ghost use Rattle.model_stops.specs.declared.Stop.{Stop};
 ghost use Rattle.ram_medium.specs.Laws.{machine_shown};
 ghost use Rattle.ram_groups.specs.Layouts.{IsOfKind};
 ghost use Rattle.ram_transfer.specs.Shown.{shown_without};
-ghost use Rattle.ram_transfer.specs.Stopped.{read_stopped_by, write_stopped_by, format_stopped_by, expand_stopped_by};
+ghost use Rattle.ram_transfer.specs.Stopped.{read_stopped_by, write_stopped_by, format_stopped_by, expand_stopped_by, record_stopped_by};
 ghost use Rattle.ram_states.specs.Shown.{shown_state, medium_under};
 
 use crate::states::{PoweredOff, State};
-use model_drive::{ExpandOut, FormatOut, WriteOut};
+use model_drive::{ExpandOut, FormatOut, RecordOut, WriteOut};
 use model_sectors::ReadOut;
 use ram_medium::{MediumControl, Stop};
 use ram_transfer::Memory;
@@ -70,6 +70,18 @@ impl StoppableOut for ExpandOut {
             Stop::Cut => ExpandOut::Cut,
             Stop::Off => ExpandOut::Off,
             Stop::Fault => ExpandOut::Fault,
+        }
+    }
+}
+
+impl StoppableOut for RecordOut {
+    ghost stopped_by = { record_stopped_by };
+
+    fn stopped_by(stop: Stop) -> RecordOut {
+        match stop {
+            Stop::Cut => RecordOut::Cut,
+            Stop::Off => RecordOut::Off,
+            Stop::Fault => RecordOut::Fault,
         }
     }
 }

@@ -6,12 +6,14 @@ use Rattle.model_sectors.specs.declared.ReadOut.{ReadOut}
 use Rattle.model_sectors.specs.declared.PowerOut.{PowerOut}
 use Rattle.model_drive.specs.declared.WriteOut.{WriteOut}
 use Rattle.model_drive.specs.declared.ExpandOut.{ExpandOut}
+use Rattle.model_drive.specs.declared.RecordOut.{RecordOut}
 use Rattle.model_drive.specs.declared.Kind.{Kind}
 use Rattle.model_drive.specs.declared.FormatOut.{FormatOut}
 use Rattle.model_drive.specs.Shown.{Shown, StandsFor}
 use Rattle.model_drive.specs.Reads.{ReadStep, VerifyStep}
 use Rattle.model_drive.specs.Writes.{WriteStep}
 use Rattle.model_drive.specs.Expands.{ExpandStep}
+use Rattle.model_drive.specs.Records.{RecordStep}
 use Rattle.model_drive.specs.Power.{PowerStep}
 use Rattle.model_drive.specs.Formats.{FormatStep}
 use Rattle.ram_medium.specs.declared.blocks.Medium.{Ghosts}
@@ -26,6 +28,7 @@ use Rattle.ram_states.specs.Reading.{ReadSteps}
 use Rattle.ram_states.specs.Expanding.{ExpandSteps}
 use Rattle.ram_states.specs.Powers.{PowerSteps}
 use Rattle.ram_states.specs.Formats.{FormatSteps}
+use Rattle.ram_states.specs.Records.{RecordSteps}
 use Rattle.ram_states.specs.Shown.{shown_state}
 use Rattle.ram_states.specs.Verifying.{VerifySteps}
 use Rattle.ram_volume.specs.Volume.{StandsForSome, shown_in}
@@ -79,6 +82,12 @@ module _ {M : Type 0} {c : ControlGhosts M} {d : Ghosts M} where
     verify_held out verified s stands =
         subst (λ (x : Shown). VerifyStep (StandsFor x) s out) (sym (held_is new is after put))
         (verified s (subst (λ (x : Shown). StandsFor x s) (held_is old was before took) stands))
+
+    pub record_held : (out : RecordOut) → RecordSteps (shown_state before) (shown_state after) out
+        → (s : Standing) → StandsFor (shown_in old was) s → RecordStep (StandsFor (shown_in new is)) s out
+    record_held out recorded s stands =
+        subst (λ (x : Shown). RecordStep (StandsFor x) s out) (sym (held_is new is after put))
+        (recorded s (subst (λ (x : Shown). StandsFor x s) (held_is old was before took) stands))
 
     pub write_held : (lba n : ℕ) (from : List ℕ) (out : WriteOut) → WriteSteps (shown_state before) (shown_state after) lba n from out
         → (s : Standing) → StandsFor (shown_in old was) s → WriteStep (shown_in new is) (StandsFor (shown_in new is)) s lba n from out

@@ -1,5 +1,6 @@
 mod ExpandCalls
 mod VerifyCalls
+mod RecordCalls
 mod CallSteps
 mod Somes
 mod Held

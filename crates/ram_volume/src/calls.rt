@@ -8,6 +8,8 @@ ghost use Rattle.model_drive.specs.Writes.{WriteCause, WriteCompletes};
 ghost use Rattle.model_drive.specs.Power.{PowerCause};
 ghost use Rattle.model_drive.specs.Formats.{FormatCause, FormatCompletes};
 ghost use Rattle.model_drive.specs.Expands.{ExpandCause, ExpandCompletes};
+ghost use Rattle.model_drive.specs.Records.{GenerationCause, LeadFromCause};
+ghost use Rattle.ram_record.specs.Record.{record_of};
 ghost use Rattle.ram_sectors.specs.declared.TheConstants.{VERIFY_LIMIT};
 ghost use Rattle.ram_transfer.specs.Writing.{WriteSteps};
 ghost use Rattle.ram_states.specs.Shown.{shown_off, shown_state, medium_under};
@@ -16,10 +18,12 @@ ghost use Rattle.ram_states.specs.Powers.{PowerSteps};
 ghost use Rattle.ram_states.specs.Formats.{FormatSteps};
 ghost use Rattle.ram_states.specs.Expanding.{ExpandSteps};
 ghost use Rattle.ram_states.specs.Verifying.{VerifySteps};
+ghost use Rattle.ram_states.specs.Records.{RecordSteps};
 ghost use Rattle.ram_volume.specs.Volume.{StandsForSome};
 
 use ram_medium::MediumControl;
-use ram_sectors::{ExpandOut, FormatOut, Kind, PowerOut, ReadOut, WriteOut};
+use ram_record::LeadRecord;
+use ram_sectors::{ExpandOut, FormatOut, Kind, PowerOut, ReadOut, RecordOut, WriteOut};
 use ram_states::{PowerOn, PoweredOff, State};
 
 /// Reads sectors, where there is a formatted disc.
@@ -148,5 +152,39 @@ pub fn expand_state<M: MediumControl>(state: State<M>, capacity: u32) -> (State<
         State::Off(off) => (State::Off(off), ExpandOut::Off),
         State::Ready(ready) => ready.expand(capacity),
         State::NotFormatted(bare) => (State::NotFormatted(bare), ExpandOut::NotFormatted),
+    }
+}
+
+/// Reads the record of the lead, where the power is on.
+pub fn generation_state<M: MediumControl>(
+    state: State<M>,
+    best: &mut LeadRecord,
+    other: &mut LeadRecord,
+) -> (State<M>, RecordOut)
+    ensures cause { GenerationCause (shown_state state) (shown_state result.0) (record_of best.new) result.1 }
+    ensures step { RecordSteps (shown_state state) (shown_state result.0) result.1 }
+    ensures some { StandsForSome (shown_state state) → StandsForSome (shown_state result.0) }
+    ensures same_shape { (shown_state result.0).shape ≡ (shown_state state).shape }
+    ensures happened { Happened M.takes (medium_under state) (medium_under result.0) }
+{
+    match state {
+        State::Off(off) => (State::Off(off), RecordOut::Off),
+        State::Ready(ready) => ready.generation(best, other),
+        State::NotFormatted(bare) => bare.generation(best, other),
+    }
+}
+
+/// Writes the record of the lead, where the power is on.
+pub fn lead_state<M: MediumControl>(state: State<M>, value: &LeadRecord) -> (State<M>, RecordOut)
+    ensures cause { LeadFromCause (shown_state state) (shown_state result.0) (record_of value.now) result.1 }
+    ensures step { RecordSteps (shown_state state) (shown_state result.0) result.1 }
+    ensures some { StandsForSome (shown_state state) → StandsForSome (shown_state result.0) }
+    ensures same_shape { (shown_state result.0).shape ≡ (shown_state state).shape }
+    ensures happened { Happened M.takes (medium_under state) (medium_under result.0) }
+{
+    match state {
+        State::Off(off) => (State::Off(off), RecordOut::Off),
+        State::Ready(ready) => ready.lead_from(value),
+        State::NotFormatted(bare) => bare.lead_from(value),
     }
 }

@@ -5,13 +5,15 @@ ghost use Rattle.std.proofs.Props.{props};
 ghost use Rattle.ram_volume.specs.Volume.{StandsForSome, shown_in};
 
 use crate::calls::{
-    expand_state, format_state, power_state, read_state, verify_state, write_state,
+    expand_state, format_state, generation_state, lead_state, power_state, read_state,
+    verify_state, write_state,
 };
 use crate::holding::{put_in, take_out};
 use ram_bytes::Block;
 use ram_medium::{Arm, FailEnd, Fate, MediumControl, SyncEnd};
+use ram_record::LeadRecord;
 use ram_sectors::{
-    Disc, DriveCounts, ExpandOut, FormatOut, Kind, PowerOut, ReadOut, Sectors, WriteOut,
+    Disc, DriveCounts, ExpandOut, FormatOut, Kind, PowerOut, ReadOut, RecordOut, Sectors, WriteOut,
 };
 use ram_states::{PoweredOff, State};
 use ram_transfer::Memory;
@@ -236,6 +238,20 @@ impl<M: MediumControl> Disc for Volume<M> {
     fn verify(&mut self, lba: u32, n: u32) -> ReadOut {
         let state = take_out(&mut self.state);
         let (state, out) = verify_state(state, lba, n);
+        put_in(&mut self.state, state);
+        out
+    }
+
+    fn generation(&mut self, best: &mut LeadRecord, other: &mut LeadRecord) -> RecordOut {
+        let state = take_out(&mut self.state);
+        let (state, out) = generation_state(state, best, other);
+        put_in(&mut self.state, state);
+        out
+    }
+
+    fn lead_from(&mut self, value: &LeadRecord) -> RecordOut {
+        let state = take_out(&mut self.state);
+        let (state, out) = lead_state(state, value);
         put_in(&mut self.state, state);
         out
     }

@@ -5,7 +5,7 @@ use Rattle.ram_audit.proofs.Adding.{by_cases, copy_told}
 use Rattle.ram_audit.proofs.copies.tell_part.Goals as goal
 
 pub returns-clause-rule : goal.returns-clause-rule
-returns-clause-rule g c = rw (← c.list_block-block.ensures.block)
+returns-clause-rule g c = rw (← c.kind_of-kind.ensures, ← c.list_block-block.ensures.block)
     (by_cases c.tell_copy.result
     (λ done did. (
       did.0,
