@@ -1,5 +1,5 @@
 -- The past of an image in memory, of what it keeps. (This project's own, as all here.)
-use Rattle.std.specs.Prelude.{◌≡◌, ℕ, zero, suc, Option, Some, None, IfSome, List, [], ◌∷◌, All}
+use Rattle.std.specs.Prelude.{ℕ, zero, suc, Option, Some, None, IfSome, List, [], ◌∷◌, All}
 use Rattle.std.specs.Option.{option_map}
 use Rattle.std.proofs.Common.{refl}
 use Rattle.std.proofs.lemmas.Bool.{false≢true}

@@ -42,9 +42,9 @@
 //!
 //! # What must fail
 //!
-//! `must-fail/` has five wrong changes that the prover refuses: an image that goes on behind a failure, an opener that forgets the
-//! failures of the image that it takes back, one that loses its second image, a sink that counts a failure and goes on, a failed
-//! write that changes a byte outside its range.
+//! `must-fail/` has four wrong changes that the prover refuses: an image that goes on behind a failure, an opener that forgets the
+//! failures of the image that it takes back, a sink that counts a failure and goes on, a failed write that changes a byte outside
+//! its range.
 #![tactic(auto)]
 
 pub mod conversation;

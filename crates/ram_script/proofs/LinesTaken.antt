@@ -13,12 +13,12 @@ use Rattle.ram_machine.specs.LineSteps.{CountsUses}
 use Rattle.ram_script.specs.Progress.{Beginning, SoFar, View, IsDue, IsTallied, IsAt, Taken, IsStoppedAt, unread}
 
 -- what follows a line that was taken from what is left
-record Follows (left' : Option (List ℕ)) (taken taken' : ℕ) (rest raw : List ℕ) : Type 0 where
+pub record Follows (left' : Option (List ℕ)) (taken taken' : ℕ) (rest raw : List ℕ) : Type 0 where
   pub next : IsNextLine rest raw
   pub left_is : left' ≡ Some next.after
   pub taken_is : taken' + length next.after ≡ taken + length rest
 
-follows : (left' : Option (List ℕ)) (taken taken' : ℕ) (rest raw : List ℕ) (f f' : ℕ) → GivesLine (Some rest) left' taken taken' raw f f' → Follows left' taken taken' rest raw
+pub follows : (left' : Option (List ℕ)) (taken taken' : ℕ) (rest raw : List ℕ) (f f' : ℕ) → GivesLine (Some rest) left' taken taken' raw f f' → Follows left' taken taken' rest raw
 follows None taken taken' rest raw f f' gives = absurd (clash gives.known)
   where
     clash : is_some {T = List ℕ} None ≡ is_some (Some rest) → ⊥

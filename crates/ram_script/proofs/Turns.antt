@@ -22,7 +22,7 @@ use Rattle.ram_machine.specs.LineFaults.{LineCount}
 use Rattle.ram_script.specs.Progress.{Beginning, SoFar, IsOffered, View, Between, Taken, Ending, EndsBetween, EndsCutOff, EndsInLine, Ends, TurnsTo, IsStoppedAt, IsStop, IsReplied, IsToldInPart, TellRule, lines_before}
 
 -- the script after one line more
-reaches_more : (ends : Type 0) (script text rest raw after : List ℕ) → (script ≡ text ++ rest) ⊎ ((rest ≡ []) × ends × (script ++ line_feed ∷ [] ≡ text)) → (rest ≡ raw ++ (line_feed ∷ after)) ⊎ ((rest ≡ raw) × (0 < length raw) × (after ≡ []))
+pub reaches_more : (ends : Type 0) (script text rest raw after : List ℕ) → (script ≡ text ++ rest) ⊎ ((rest ≡ []) × ends × (script ++ line_feed ∷ [] ≡ text)) → (rest ≡ raw ++ (line_feed ∷ after)) ⊎ ((rest ≡ raw) × (0 < length raw) × (after ≡ []))
     → (script ≡ (text ++ (raw ++ line_feed ∷ [])) ++ after) ⊎ ((after ≡ []) × (0 < length raw) × (script ++ line_feed ∷ [] ≡ text ++ (raw ++ line_feed ∷ [])))
 reaches_more ends script text rest raw after (inl whole) (inl parts) =
     inl (whole ∙ ap (λ l. text ++ l) (parts ∙ sym (append_assoc raw (line_feed ∷ []) after)) ∙ sym (append_assoc text (raw ++ line_feed ∷ []) after))
@@ -32,7 +32,7 @@ reaches_more ends script text rest raw after (inr ended) (inl parts) = absurd (o
 reaches_more ends script text rest raw after (inr ended) (inr last) = absurd (omega (arith, ap length (sym ended.0 ∙ last.0), last.1))
 
 -- what is due after one text more
-due_more : (due due' : Option (List ℕ)) (report so_far text : List ℕ) → IfSome due (λ bytes. bytes ≡ report ++ so_far) → due' ≡ append_known due text → IfSome due' (λ bytes. bytes ≡ report ++ (so_far ++ text))
+pub due_more : (due due' : Option (List ℕ)) (report so_far text : List ℕ) → IfSome due (λ bytes. bytes ≡ report ++ so_far) → due' ≡ append_known due text → IfSome due' (λ bytes. bytes ≡ report ++ (so_far ++ text))
 due_more None due' report so_far text known grew = subst (λ (o : Option (List ℕ)). IfSome o (λ bytes. bytes ≡ report ++ (so_far ++ text))) (sym grew) tt
 due_more (Some bytes) due' report so_far text known grew =
     subst (λ (o : Option (List ℕ)). IfSome o (λ all. all ≡ report ++ (so_far ++ text))) (sym grew) (ap (λ (l : List ℕ). l ++ text) known ∙ append_assoc report so_far text)

@@ -1,0 +1,5 @@
+pub mod RawLines
+pub mod OneMore
+pub mod Endings
+pub mod FewLines
+pub mod States

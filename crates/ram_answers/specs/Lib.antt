@@ -1,0 +1,6 @@
+pub mod Outcomes
+pub mod Texts
+pub mod TextRuns
+pub mod TextEnds
+pub mod TextAsks
+pub mod StateRuns
