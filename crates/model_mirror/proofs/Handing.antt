@@ -10,7 +10,8 @@ use Rattle.model_drive.specs.Shown.{Shown}
 use Rattle.model_drive.specs.Reads.{ReadStep}
 use Rattle.model_drive.specs.Writes.{WriteStep}
 use Rattle.model_mirror.specs.Table.{some_apart}
-use Rattle.model_mirror.specs.Shown.{MirrorShown, may_lead, handed_over, led_by}
+use Rattle.model_mirror.specs.Shown.{MirrorShown, may_lead, led_by}
+use Rattle.model_mirror.specs.Taking.{IsTaken}
 use Rattle.model_mirror.specs.Standing.{StandsSomehow, IsFollowed, MirrorStands}
 use Rattle.model_mirror.specs.Reads as read_causes
 use Rattle.model_mirror.specs.Writes as write_causes
@@ -41,7 +42,7 @@ module _ (new : MirrorShown) (lead other : Standing → Type 0) (down : new.up �
   stands_alone on disc so = (on, so, record { some = some; copy = λ up. absurd (up_not up) })
 
   pub stands_off : (discs : List (List ℕ)) → lead (Off discs) → MirrorStands new lead other (Off discs)
-  stands_off discs so = (so, some)
+  stands_off discs so = (inl so, some)
 
   pub alone_read : (disc : List ℕ) (lba n : ℕ) (into : List ℕ) (out : ReadOut) → (read_causes.read_is_stopped out ≡ false → new.on ≡ true) → ReadStep lead (On disc) lba n into out
       → ReadStep (MirrorStands new lead other) (On disc) lba n into out
@@ -65,26 +66,30 @@ module _ (new : MirrorShown) (lead other : Standing → Type 0) (down : new.up �
   alone_write shown disc lba n bytes writes.Off on step = step
   alone_write shown disc lba n bytes writes.Fault on step = record { block = step.block; covered = step.covered; either = stands_off _ step.either }
 
+-- a side that took the lead has it alone, and the mirror is on
+pub taken_alone : (mid late : MirrorShown) → IsTaken mid late → (late.up ≡ false) × (late.on ≡ true)
+taken_alone mid late taken = (ap (λ (s : MirrorShown). s.up) taken.new_is, ap (λ (s : MirrorShown). s.on) taken.new_is)
+
 -- All was read, or written, by the side that had taken the lead.
-module _ (mid new : MirrorShown) (lead other : Standing → Type 0) where
-  pub read_elsewhere : (out : ReadOut) → new ≡ read_causes.after_lone_read out (led_by (handed_over mid) new.lead)
+module _ (late new : MirrorShown) (down : late.up ≡ false) (on : late.on ≡ true) where
+  pub read_elsewhere : (out : ReadOut) → new ≡ read_causes.after_lone_read out (led_by late new.lead)
       → (new.up ≡ false) × (read_causes.read_is_stopped out ≡ false → new.on ≡ true)
-  read_elsewhere reads.Good is = (ap (λ (s : MirrorShown). s.up) is, λ go. ap (λ (s : MirrorShown). s.on) is)
-  read_elsewhere reads.NotFormatted is = (ap (λ (s : MirrorShown). s.up) is, λ go. ap (λ (s : MirrorShown). s.on) is)
-  read_elsewhere (reads.Range known) is = (ap (λ (s : MirrorShown). s.up) is, λ go. ap (λ (s : MirrorShown). s.on) is)
-  read_elsewhere (reads.Unread named block) is = (ap (λ (s : MirrorShown). s.up) is, λ go. ap (λ (s : MirrorShown). s.on) is)
+  read_elsewhere reads.Good is = (ap (λ (s : MirrorShown). s.up) is ∙ down, λ go. ap (λ (s : MirrorShown). s.on) is ∙ on)
+  read_elsewhere reads.NotFormatted is = (ap (λ (s : MirrorShown). s.up) is ∙ down, λ go. ap (λ (s : MirrorShown). s.on) is ∙ on)
+  read_elsewhere (reads.Range known) is = (ap (λ (s : MirrorShown). s.up) is ∙ down, λ go. ap (λ (s : MirrorShown). s.on) is ∙ on)
+  read_elsewhere (reads.Unread named block) is = (ap (λ (s : MirrorShown). s.up) is ∙ down, λ go. ap (λ (s : MirrorShown). s.on) is ∙ on)
   read_elsewhere reads.Cut is = (ap (λ (s : MirrorShown). s.up) is, λ go. absurd (let w = go in cc))
-  read_elsewhere reads.Off is = (ap (λ (s : MirrorShown). s.up) is, λ go. ap (λ (s : MirrorShown). s.on) is)
+  read_elsewhere reads.Off is = (ap (λ (s : MirrorShown). s.up) is ∙ down, λ go. ap (λ (s : MirrorShown). s.on) is ∙ on)
   read_elsewhere reads.Fault is = (ap (λ (s : MirrorShown). s.up) is, λ go. absurd (let w = go in cc))
 
-  pub write_elsewhere : (out : WriteOut) → new ≡ write_causes.after_lone_write out (led_by (handed_over mid) new.lead)
+  pub write_elsewhere : (out : WriteOut) → new ≡ write_causes.after_lone_write out (led_by late new.lead)
       → (new.up ≡ false) × (write_causes.write_is_stopped out ≡ false → new.on ≡ true)
-  write_elsewhere writes.Good is = (ap (λ (s : MirrorShown). s.up) is, λ go. ap (λ (s : MirrorShown). s.on) is)
-  write_elsewhere writes.NotFormatted is = (ap (λ (s : MirrorShown). s.up) is, λ go. ap (λ (s : MirrorShown). s.on) is)
-  write_elsewhere (writes.Range known) is = (ap (λ (s : MirrorShown). s.up) is, λ go. ap (λ (s : MirrorShown). s.on) is)
-  write_elsewhere (writes.Unread named block) is = (ap (λ (s : MirrorShown). s.up) is, λ go. ap (λ (s : MirrorShown). s.on) is)
-  write_elsewhere (writes.NoSpare named) is = (ap (λ (s : MirrorShown). s.up) is, λ go. ap (λ (s : MirrorShown). s.on) is)
-  write_elsewhere (writes.NoUpdate counter) is = (ap (λ (s : MirrorShown). s.up) is, λ go. ap (λ (s : MirrorShown). s.on) is)
+  write_elsewhere writes.Good is = (ap (λ (s : MirrorShown). s.up) is ∙ down, λ go. ap (λ (s : MirrorShown). s.on) is ∙ on)
+  write_elsewhere writes.NotFormatted is = (ap (λ (s : MirrorShown). s.up) is ∙ down, λ go. ap (λ (s : MirrorShown). s.on) is ∙ on)
+  write_elsewhere (writes.Range known) is = (ap (λ (s : MirrorShown). s.up) is ∙ down, λ go. ap (λ (s : MirrorShown). s.on) is ∙ on)
+  write_elsewhere (writes.Unread named block) is = (ap (λ (s : MirrorShown). s.up) is ∙ down, λ go. ap (λ (s : MirrorShown). s.on) is ∙ on)
+  write_elsewhere (writes.NoSpare named) is = (ap (λ (s : MirrorShown). s.up) is ∙ down, λ go. ap (λ (s : MirrorShown). s.on) is ∙ on)
+  write_elsewhere (writes.NoUpdate counter) is = (ap (λ (s : MirrorShown). s.up) is ∙ down, λ go. ap (λ (s : MirrorShown). s.on) is ∙ on)
   write_elsewhere writes.Cut is = (ap (λ (s : MirrorShown). s.up) is, λ go. absurd (let w = go in cc))
-  write_elsewhere writes.Off is = (ap (λ (s : MirrorShown). s.up) is, λ go. ap (λ (s : MirrorShown). s.on) is)
+  write_elsewhere writes.Off is = (ap (λ (s : MirrorShown). s.up) is ∙ down, λ go. ap (λ (s : MirrorShown). s.on) is ∙ on)
   write_elsewhere writes.Fault is = (ap (λ (s : MirrorShown). s.up) is, λ go. absurd (let w = go in cc))

@@ -1,5 +1,5 @@
 -- After each call a side stands for something, if it did before.
-use Rattle.std.proofs.Common.{ℕ, ◌⊎◌, inl, inr, true, List, [], ◌∷◌}
+use Rattle.std.proofs.Common.{◌≡◌, ℕ, ◌⊎◌, inl, inr, true, false, List, [], ◌∷◌, sym, ◌∙◌}
 use Rattle.model_sectors.specs.Discs.{Standing, On, Off, candidates}
 use Rattle.model_sectors.specs.declared.ReadOut.{ReadOut}
 use Rattle.model_sectors.specs.declared.ReadOut.TheVariants as reads
@@ -16,7 +16,16 @@ use Rattle.model_drive.specs.Writes.{WriteStep}
 use Rattle.model_drive.specs.Power.{PowerStep}
 use Rattle.model_drive.specs.Formats.{FormatStep}
 use Rattle.model_formats.specs.Stopped.{zero_disc}
-use Rattle.model_mirror.specs.Standing.{StandsSomehow}
+use Rattle.model_drive.specs.declared.RecordOut.{RecordOut}
+use Rattle.model_drive.specs.declared.RecordOut.TheVariants as records
+use Rattle.model_drive.specs.Records.{RecordStep}
+use Rattle.model_mirror.specs.Shown.{MirrorShown}
+use Rattle.model_mirror.specs.Standing.{StandsSomehow, MirrorStands}
+
+-- a mirror that is on stands for Off where its lead does
+pub led_off : (shown : MirrorShown) → shown.on ≡ true → (lead other : Standing → Type 0) (discs : List (List ℕ)) → MirrorStands shown lead other (Off discs) → lead (Off discs)
+led_off shown on lead other discs (inl off, some) = off
+led_off shown on lead other discs (inr idle, some) = absurd (let e : false ≡ true = sym idle.off ∙ on in cc)
 
 module _ (after : Standing → Type 0) where
   it : (t : Standing) → after t → StandsSomehow after
@@ -63,6 +72,18 @@ module _ (after : Standing → Type 0) where
   power_somehow new s powers.NotFormatted step = it (On []) step
   power_somehow new s powers.Cut step = it (Off (candidates s)) step
   power_somehow new s powers.Fault step = it (Off (candidates s)) step
+
+  pub record_somehow : (s : Standing) (out : RecordOut) → RecordStep after s out → StandsSomehow after
+  record_somehow (On disc) records.Good step = it (On disc) step
+  record_somehow (On disc) records.Lost step = it (On disc) step
+  record_somehow (On disc) records.Cut step = it (Off (disc ∷ [])) step
+  record_somehow (On disc) records.Off step = absurd step
+  record_somehow (On disc) records.Fault step = it (Off (disc ∷ [])) step
+  record_somehow (Off discs) records.Good step = absurd step
+  record_somehow (Off discs) records.Lost step = absurd step
+  record_somehow (Off discs) records.Cut step = absurd step
+  record_somehow (Off discs) records.Off step = it (Off discs) step
+  record_somehow (Off discs) records.Fault step = absurd step
 
   pub format_somehow : (old new : Shown) (s : Standing) (out : FormatOut) → FormatStep old new after s (kinds.Full true) out → StandsSomehow after
   format_somehow old new (On disc) formats.Good step = it (On (zero_disc old.shape)) step

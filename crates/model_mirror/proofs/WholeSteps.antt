@@ -1,103 +1,33 @@
--- What the power on, a format and the copying of one block make of what a mirror stands for.
-use Rattle.std.proofs.Common.{◌≡◌, ℕ, ◌+◌, ◌*◌, ◌≤◌, Bool, true, false, List, [], ◌∷◌, length, refl, sym, ap, ◌∙◌, subst, arith}
+-- What a format and the copying of one block make of what a mirror stands for.
+use Rattle.std.proofs.Common.{◌≡◌, ℕ, ◌+◌, ◌*◌, ◌≤◌, Bool, true, false, List, length, refl, sym, ap, ◌∙◌, subst, arith}
 use Rattle.std.proofs.lemmas.Bool.{eqb-true}
 use Rattle.std.proofs.lemmas.List.{length-replicate}
-use Rattle.model_sectors.specs.Discs.{Standing, On, Off, candidates, replaced, sectors_of, zeros}
+use Rattle.model_sectors.specs.Discs.{Standing, On, Off, replaced, sectors_of, zeros}
 use Rattle.model_sectors.specs.Requests.{block_with, blocks_covered, NamesBlock}
 use Rattle.model_sectors.proofs.Covering.{covers_some}
 use Rattle.model_sectors.proofs.Pieces.{replaced_none}
 use Rattle.model_sectors.proofs.Fitting.{length-zeros}
-use Rattle.model_sectors.specs.declared.PowerOut.{PowerOut}
-use Rattle.model_sectors.specs.declared.PowerOut.TheVariants as powers
 use Rattle.model_drive.specs.declared.WriteOut.{WriteOut}
 use Rattle.model_drive.specs.declared.WriteOut.TheVariants as writes
 use Rattle.model_drive.specs.declared.FormatOut.{FormatOut}
 use Rattle.model_drive.specs.declared.FormatOut.TheVariants as formats
 use Rattle.model_drive.specs.declared.Kind.TheVariants as kinds
 use Rattle.model_formats.specs.Stopped.{zero_disc}
-use Rattle.model_drive.specs.Shown.{StandsFor, block_count, capacity}
-use Rattle.model_drive.specs.Power.{PowerCause, PowerStep, FindsDisc}
+use Rattle.model_drive.specs.Shown.{StandsFor, block_count}
 use Rattle.model_drive.specs.Formats.{FormatStep}
 use Rattle.model_drive.specs.Writes.{WriteCause, WriteStep}
 use Rattle.model_cache.specs.Falling.{LiesIn}
 use Rattle.model_mirror.specs.Shown.{MirrorShown}
-use Rattle.model_mirror.specs.Standing.{AgreesBut, HasCopy, StandsSomehow, IsFollowed, MirrorStands}
-use Rattle.model_mirror.specs.Whole.{is_ready_with, all_apart, none_apart, up_after_format, CopyEnds}
-use Rattle.model_mirror.proofs.Alike.{all_apart_agree, agrees_itself, lies_in_copy}
+use Rattle.model_mirror.specs.Standing.{AgreesBut, HasCopy, IsFollowed, MirrorStands}
+use Rattle.model_mirror.specs.Whole.{none_apart, up_after_format, CopyEnds}
+use Rattle.model_mirror.proofs.Alike.{agrees_itself, lies_in_copy}
 use Rattle.model_mirror.proofs.Writes.{block_copied}
-use Rattle.model_mirror.proofs.Somehow.{power_somehow, write_somehow, format_somehow}
+use Rattle.model_mirror.proofs.Somehow.{led_off, write_somehow, format_somehow}
 use Rattle.model_mirror.proofs.WriteSteps.{long_as_counted, named_block}
-
--- the lead stands for what the mirror stands for
-pub lead_stood : (shown : MirrorShown) (lead other : Standing → Type 0) (s : Standing) → MirrorStands shown lead other s → lead s
-lead_stood shown lead other (On disc) (on, so, followed) = so
-lead_stood shown lead other (Off discs) (off, some) = off
-
-pub other_stood : (shown : MirrorShown) (lead other : Standing → Type 0) (s : Standing) → MirrorStands shown lead other s → StandsSomehow other
-other_stood shown lead other (On disc) (on, so, followed) = followed.some
-other_stood shown lead other (Off discs) stood = stood.1
 
 -- zeros of one length are the same
 same_zeros : (a b : ℕ) → length (zeros a) ≡ length (zeros b) → zeros a ≡ zeros b
 same_zeros a b e = ap zeros (sym (length-zeros a) ∙ e ∙ length-zeros b)
-
-module _ (old new : MirrorShown) (lead lead' other other' : Standing → Type 0) (to_lead : (s : Standing) → lead' s → StandsFor new.lead s) (to_other : (s : Standing) → other' s → StandsFor new.other s)
-  where
-    -- a side that is ready with the capacity of the lead stands for a disc as long
-    ready_copy : (told : PowerOut) (disc : List ℕ) → lead' (On disc) → new.table ≡ all_apart new.lead → (t : Standing) → PowerCause old.other new.other told → PowerStep new.other other' t told
-        → is_ready_with (capacity new.lead) told ≡ true → HasCopy other' new.table disc
-    ready_copy (powers.Ready known) disc so table t cause step is = record {
-      copy = step.disc;
-      stands = step.found;
-      agrees = subst (λ (x : List Bool). AgreesBut x disc step.disc) (sym table) (all_apart_agree disc step.disc (block_count new.lead) (long_as_counted new.lead disc (to_lead (On disc) so))
-          (let e = eqb-true known (capacity new.lead) is in let here : capacity new.other ≡ capacity new.lead = sym cause.known_is ∙ e in
-          long_as_counted new.other step.disc (to_other (On step.disc) step.found) ∙ ap (λ (k : ℕ). 32768 * k) (omega (arith, here))));
-    }
-    ready_copy powers.NotFormatted disc so table t cause step is = absurd (let w = is in cc)
-    ready_copy powers.Cut disc so table t cause step is = absurd (let w = is in cc)
-    ready_copy powers.Fault disc so table t cause step is = absurd (let w = is in cc)
-
-    -- both were powered, and the lead is ready
-    pub ready_power : (known : ℕ) (told : PowerOut) → PowerCause old.lead new.lead (powers.Ready known) → PowerCause old.other new.other told → new.on ≡ true → new.up ≡ is_ready_with known told
-        → new.table ≡ all_apart new.lead → ((s : Standing) → lead s → PowerStep new.lead lead' s (powers.Ready known)) → ((s : Standing) → other s → PowerStep new.other other' s told)
-        → (s : Standing) → MirrorStands old lead other s → PowerStep new.lead (MirrorStands new lead' other') s (powers.Ready known)
-    ready_power known told lead_cause cause on up table lead_step step s stood =
-        let was = lead_stood old lead other s stood in
-        let some = other_stood old lead other s stood in
-        let found : FindsDisc new.lead lead' (candidates s) = lead_step s was in
-        let next = step some.standing some.stands in
-        record {
-          lists = found.lists;
-          in_use = found.in_use;
-          disc = found.disc;
-          first = found.first;
-          found = (
-            on,
-            found.found,
-            record {
-              some = power_somehow other' new.other some.standing told next;
-              copy = λ is. ready_copy told found.disc found.found table some.standing cause next (sym (ap (λ (k : ℕ). is_ready_with k told) lead_cause.known_is) ∙ sym up ∙ is);
-            },
-          );
-        }
-
-    -- the lead's disc is not formatted
-    pub bare_power : (told : PowerOut) → new.on ≡ true → new.up ≡ false → ((s : Standing) → lead s → PowerStep new.lead lead' s powers.NotFormatted)
-        → ((s : Standing) → other s → PowerStep new.other other' s told) → (s : Standing) → MirrorStands old lead other s → PowerStep new.lead (MirrorStands new lead' other') s powers.NotFormatted
-    bare_power told on down lead_step step s stood =
-        let was = lead_stood old lead other s stood in
-        let some = other_stood old lead other s stood in (
-          on,
-          lead_step s was,
-          record { some = power_somehow other' new.other some.standing told (step some.standing some.stands); copy = λ up. absurd (let e : false ≡ true = sym down ∙ up in cc) },
-        )
-
-    -- the lead was stopped
-    pub off_power : (told : PowerOut) → ((s : Standing) → other s → PowerStep new.other other' s told) → ((t : Standing) → lead t → lead' (Off (candidates t)))
-        → (s : Standing) → MirrorStands old lead other s → MirrorStands new lead' other' (Off (candidates s))
-    off_power told step lead_step s stood =
-        let some = other_stood old lead other s stood in
-        (lead_step s (lead_stood old lead other s stood), power_somehow other' new.other some.standing told (step some.standing some.stands))
 
 -- Both sides were formatted: they have zeros.
 module _ (old mid new : MirrorShown) (lead lead' other other' : Standing → Type 0) (to_lead : (s : Standing) → lead' s → StandsFor new.lead s) (to_other : (s : Standing) → other' s → StandsFor new.other s)
@@ -138,7 +68,7 @@ module _ (old mid new : MirrorShown) (lead lead' other other' : Standing → Typ
       go formats.Cut t stepped is = absurd (let w = is in cc)
       go formats.Off t stepped is = absurd (let w = is in cc)
       go formats.Fault t stepped is = absurd (let w = is in cc)
-  good_format told up lead_step step (Off discs) (off, some) = lead_step (Off discs) off
+  good_format told up lead_step step (Off discs) stood = lead_step (Off discs) (led_off old on lead other discs stood)
 
 -- the one block of a whole block's request
 whole_with : (i : ℕ) → block_with (16 * i) ≡ i

@@ -1,5 +1,5 @@
 -- What a write makes of the disc of a mirror, and of the copy on the other side: one lemma for each end.
-use Rattle.std.proofs.Common.{◌≡◌, ℕ, ◌+◌, ◌*◌, ◌≤◌, inl, inr, true, false, Some, None, Option, List, length, refl, sym, ap, ◌∙◌, subst, arith}
+use Rattle.std.proofs.Common.{◌≡◌, ℕ, ◌+◌, ◌*◌, ◌≤◌, inl, true, false, Some, None, Option, List, length, refl, sym, ap, ◌∙◌, subst, arith}
 use Rattle.std.specs.Option.{option_map_or}
 use Rattle.model_sectors.specs.Discs.{Standing, On, Off, replaced}
 use Rattle.model_sectors.specs.Requests.{block_with, blocks_covered, NamesBlock}
@@ -12,13 +12,14 @@ use Rattle.model_drive.specs.Parts.{IsInRange}
 use Rattle.model_drive.specs.Writes.{WriteCause, WriteStep}
 use Rattle.model_cache.specs.Falling.{LiesIn}
 use Rattle.model_mirror.specs.Table.{AreMarked, is_covered, is_covered_before}
-use Rattle.model_mirror.specs.Shown.{MirrorShown, led_by, mirror_turned_off, may_lead, handed_over}
+use Rattle.model_mirror.specs.Shown.{MirrorShown, led_by}
+use Rattle.model_mirror.specs.Taking.{IsTaken, TakeStep}
 use Rattle.model_mirror.specs.Standing.{HasCopy, StandsSomehow, IsFollowed, MirrorStands}
 use Rattle.model_mirror.specs.Writes.{WritesSide, OtherEnds}
 use Rattle.model_mirror.specs.Writes as write_causes
-use Rattle.model_mirror.proofs.Handing.{takes_the_lead, alone_write, write_elsewhere}
+use Rattle.model_mirror.proofs.Handing.{takes_the_lead, taken_alone, alone_write, write_elsewhere}
 use Rattle.model_mirror.proofs.Writes.{both_written, first_refused, first_unlisted, second_refused, second_unlisted}
-use Rattle.model_mirror.proofs.Somehow.{write_somehow}
+use Rattle.model_mirror.proofs.Somehow.{write_somehow, led_off}
 
 -- a disc of a drive has as many bytes as its lists say
 pub long_as_counted : (shown : Shown) (disc : List ℕ) → StandsFor shown (On disc) → length disc ≡ 32768 * block_count shown
@@ -98,7 +99,7 @@ module _ (lba n : ℕ) (bytes : List ℕ) (old : MirrorShown) (on : old.on ≡ t
     (whole : length bytes ≡ 2048 * n) where
   -- a mirror that is on stands for Off where its lead does
   pub off_lead : (discs : List (List ℕ)) → MirrorStands old lead other (Off discs) → lead (Off discs)
-  off_lead discs (off, some) = off
+  off_lead discs stood = led_off old on lead other discs stood
 
   lies : (disc : List ℕ) → IsInRange old.lead lba n → lead (On disc) → LiesIn disc lba n bytes
   lies disc inside so = lies_in_range old.lead disc lba n bytes (to_shown (On disc) so) inside whole
@@ -159,27 +160,28 @@ module _ (lba n : ℕ) (bytes : List ℕ) (old : MirrorShown) (on : old.on ≡ t
     good_write_alone lead' down step (Off discs) stood = step (Off discs) (off_lead discs stood)
 
     -- it was stopped, and the other side takes the lead: what that makes of the disc is what the mirror makes of it
-    pub elsewhere_write : (lead' new_lead : Standing → Type 0) (out : WriteOut) → may_lead mid ≡ true → StandsSomehow lead' → new ≡ write_causes.after_lone_write out (led_by (handed_over mid) new.lead)
-        → ((s : Standing) → other s → WriteStep new.lead new_lead s lba n bytes out) → (disc : List ℕ) → MirrorStands old lead other (On disc)
+    pub elsewhere_write : (late : MirrorShown) (lead' other₁ new_lead : Standing → Type 0) (out : WriteOut) → IsTaken mid late → TakeStep other other₁ true → StandsSomehow lead'
+        → new ≡ write_causes.after_lone_write out (led_by late new.lead) → ((s : Standing) → other₁ s → WriteStep new.lead new_lead s lba n bytes out) → (disc : List ℕ) → MirrorStands old lead other (On disc)
         → WriteStep new.lead (MirrorStands new new_lead lead') (On disc) lba n bytes out
-    elsewhere_write lead' new_lead out may some is step disc (_, so, followed) =
-        let ends = write_elsewhere mid new new_lead lead' out is in
-        alone_write new new_lead lead' ends.0 some new.lead disc lba n bytes out ends.1 (step (On disc) (takes_the_lead mid other disc (mid_followed disc followed) may))
+    elsewhere_write late lead' other₁ new_lead out taken take some is step disc (_, so, followed) =
+        let alone = taken_alone mid late taken in
+        let ends = write_elsewhere late new alone.0 alone.1 out is in
+        alone_write new new_lead lead' ends.0 some new.lead disc lba n bytes out ends.1 (step (On disc) (take disc (takes_the_lead mid other disc (mid_followed disc followed) taken.may)))
 
     -- it was stopped, and the mirror is off
-    pub stopped_write : (lead' : Standing → Type 0) (out : WriteOut) → write_causes.write_is_stopped out ≡ true → new ≡ mirror_turned_off mid
+    pub stopped_write : (lead' other' : Standing → Type 0) (out : WriteOut) → write_causes.write_is_stopped out ≡ true → TakeStep other other' false
         → ((s : Standing) → lead s → WriteStep mid.lead lead' s lba n bytes out) → (s : Standing) → MirrorStands old lead other s
-        → WriteStep mid.lead (MirrorStands new lead' other) s lba n bytes out
-    stopped_write lead' writes.Cut stop is step (On disc) (_, so, followed) =
-        let ends = step (On disc) so in record { block = ends.block; covered = ends.covered; either = (ends.either, followed.some) }
-    stopped_write lead' writes.Fault stop is step (On disc) (_, so, followed) =
-        let ends = step (On disc) so in record { block = ends.block; covered = ends.covered; either = (ends.either, followed.some) }
-    stopped_write lead' writes.Cut stop is step (Off discs) stood = step (Off discs) (off_lead discs stood)
-    stopped_write lead' writes.Fault stop is step (Off discs) stood = step (Off discs) (off_lead discs stood)
-    stopped_write lead' writes.Good stop is step s stood = absurd (let w = stop in cc)
-    stopped_write lead' writes.NotFormatted stop is step s stood = absurd (let w = stop in cc)
-    stopped_write lead' (writes.Range known) stop is step s stood = absurd (let w = stop in cc)
-    stopped_write lead' (writes.Unread named block) stop is step s stood = absurd (let w = stop in cc)
-    stopped_write lead' (writes.NoSpare named) stop is step s stood = absurd (let w = stop in cc)
-    stopped_write lead' (writes.NoUpdate counter) stop is step s stood = absurd (let w = stop in cc)
-    stopped_write lead' writes.Off stop is step s stood = absurd (let w = stop in cc)
+        → WriteStep mid.lead (MirrorStands new lead' other') s lba n bytes out
+    stopped_write lead' other' writes.Cut stop take step (On disc) (_, so, followed) =
+        let ends = step (On disc) so in record { block = ends.block; covered = ends.covered; either = (inl ends.either, take followed.some.standing followed.some.stands) }
+    stopped_write lead' other' writes.Fault stop take step (On disc) (_, so, followed) =
+        let ends = step (On disc) so in record { block = ends.block; covered = ends.covered; either = (inl ends.either, take followed.some.standing followed.some.stands) }
+    stopped_write lead' other' writes.Cut stop take step (Off discs) stood = step (Off discs) (off_lead discs stood)
+    stopped_write lead' other' writes.Fault stop take step (Off discs) stood = step (Off discs) (off_lead discs stood)
+    stopped_write lead' other' writes.Good stop take step s stood = absurd (let w = stop in cc)
+    stopped_write lead' other' writes.NotFormatted stop take step s stood = absurd (let w = stop in cc)
+    stopped_write lead' other' (writes.Range known) stop take step s stood = absurd (let w = stop in cc)
+    stopped_write lead' other' (writes.Unread named block) stop take step s stood = absurd (let w = stop in cc)
+    stopped_write lead' other' (writes.NoSpare named) stop take step s stood = absurd (let w = stop in cc)
+    stopped_write lead' other' (writes.NoUpdate counter) stop take step s stood = absurd (let w = stop in cc)
+    stopped_write lead' other' writes.Off stop take step s stood = absurd (let w = stop in cc)

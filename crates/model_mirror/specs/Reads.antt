@@ -6,7 +6,8 @@ use Rattle.model_sectors.specs.declared.ReadOut.{ReadOut}
 use Rattle.model_sectors.specs.declared.ReadOut.TheVariants as outs
 use Rattle.model_drive.specs.Parts.{IsInRange}
 use Rattle.model_cache.specs.Chains.{ReadsDisc}
-use Rattle.model_mirror.specs.Shown.{MirrorShown, stands_in, may_lead, handed_over, mirror_turned_off, led_by}
+use Rattle.model_mirror.specs.Shown.{MirrorShown, stands_in, mirror_turned_off, led_by}
+use Rattle.model_mirror.specs.Taking.{TakesLead}
 
 -- the lead was read, and it went so
 abbrev pub LeadReads : MirrorShown → MirrorShown → (lba n : ℕ) → ReadOut → Type 0
@@ -82,23 +83,23 @@ after_lone_read outs.Cut shown = mirror_turned_off shown
 after_lone_read outs.Fault shown = mirror_turned_off shown
 after_lone_read _ shown = shown
 
--- The lead was stopped. The other side may lead: it does, and all is read there. Else the mirror is off.
+-- The lead was stopped. The other side takes it, with its record, and all is read there.
 pub record ReadsElsewhere (old new : MirrorShown) (lba n : ℕ) (out : ReadOut) : Type 0 where
   pub mid : MirrorShown
   pub lost : ReadOut
   pub stopped : read_is_stopped lost ≡ true
   pub led : ReadsLed old mid lba n lost
-  pub may : may_lead mid ≡ true
-  pub reads : ReadsDisc mid.other new.lead lba n out
-  pub new_is : new ≡ after_lone_read out (led_by (handed_over mid) new.lead)
+  pub late : MirrorShown
+  pub takes : TakesLead mid late true
+  pub reads : ReadsDisc late.lead new.lead lba n out
+  pub new_is : new ≡ after_lone_read out (led_by late new.lead)
 
--- The lead was stopped, and the other side may not lead: the mirror is off.
+-- The lead was stopped, and the other side does not take it: the mirror is off.
 pub record ReadStopped (old new : MirrorShown) (lba n : ℕ) (out : ReadOut) : Type 0 where
   pub mid : MirrorShown
   pub stopped : read_is_stopped out ≡ true
   pub led : ReadsLed old mid lba n out
-  pub may_not : may_lead mid ≡ false
-  pub new_is : new ≡ mirror_turned_off mid
+  pub takes : TakesLead mid new false
 
 -- the read of a mirror that is on
 abbrev pub ReadsWithSides : MirrorShown → MirrorShown → (lba n : ℕ) → ReadOut → Type 0

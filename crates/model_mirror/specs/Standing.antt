@@ -1,6 +1,6 @@
 -- What a mirror stands for: what its lead stands for; and where the other side is up, that one stands for a disc with the same
 -- bytes in each block that is not apart. (This project's own, as all here.)
-use Rattle.std.specs.Prelude.{◌≡◌, ℕ, ◌*◌, ◌≤◌, Bool, true, false, List, length}
+use Rattle.std.specs.Prelude.{◌≡◌, ℕ, ◌*◌, ◌≤◌, ◌⊎◌, Bool, true, false, List, [], ◌∷◌, length}
 use Rattle.model_sectors.specs.Discs.{Standing, On, Off, block_of}
 use Rattle.model_mirror.specs.Table.{is_apart}
 use Rattle.model_mirror.specs.Shown.{MirrorShown}
@@ -28,7 +28,14 @@ pub record IsFollowed (shown : MirrorShown) (other : Standing → Type 0) (disc 
   pub some : StandsSomehow other
   pub copy : shown.up ≡ true → HasCopy other shown.table disc
 
+-- The mirror is off, and its lead is on with this one disc.
+pub record LeadIsIdle (shown : MirrorShown) (lead : Standing → Type 0) (discs : List (List ℕ)) : Type 0 where
+  pub off : shown.on ≡ false
+  pub disc : List ℕ
+  pub one : discs ≡ disc ∷ []
+  pub stands : lead (On disc)
+
 -- What a mirror stands for, by what its sides stand for.
 abbrev pub MirrorStands : MirrorShown → (lead other : Standing → Type 0) → Standing → Type 0
 MirrorStands shown lead other (On disc) = (shown.on ≡ true) × lead (On disc) × IsFollowed shown other disc
-MirrorStands shown lead other (Off discs) = lead (Off discs) × StandsSomehow other
+MirrorStands shown lead other (Off discs) = (lead (Off discs) ⊎ LeadIsIdle shown lead discs) × StandsSomehow other

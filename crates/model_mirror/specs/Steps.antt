@@ -1,5 +1,5 @@
 -- What a resynchronisation makes of what a mirror stands for. All other calls do with it what they do with one disc. (This project's own.)
-use Rattle.std.specs.Prelude.{◌≡◌, List, [], ◌∷◌}
+use Rattle.std.specs.Prelude.{◌≡◌, [], ◌∷◌}
 use Rattle.model_sectors.specs.Discs.{Standing, On, Off}
 use Rattle.model_mirror.specs.declared.Resync.{Resync}
 use Rattle.model_mirror.specs.declared.Resync.TheVariants as resyncs

@@ -1,16 +1,13 @@
--- Why each answer of the power on, of a format and of a resynchronisation of a mirror comes. (This project's own, as all here.)
+-- Why each answer of a format and of a resynchronisation of a mirror comes. (This project's own, as all here.)
 use Rattle.std.specs.Prelude.{◌≡◌, ℕ, zero, suc, ◌*◌, ◌<◌, ◌==◌, ◌⊎◌, ◌&&◌, MatchBool, if◌then◌else◌, Bool, true, false, List, replicate}
 use Rattle.model_sectors.specs.declared.ReadOut.{ReadOut}
 use Rattle.model_sectors.specs.declared.ReadOut.TheVariants as reads
-use Rattle.model_sectors.specs.declared.PowerOut.{PowerOut}
-use Rattle.model_sectors.specs.declared.PowerOut.TheVariants as powers
 use Rattle.model_drive.specs.declared.WriteOut.{WriteOut}
 use Rattle.model_drive.specs.declared.WriteOut.TheVariants as writes
 use Rattle.model_drive.specs.declared.FormatOut.{FormatOut}
 use Rattle.model_drive.specs.declared.FormatOut.TheVariants as formats
 use Rattle.model_drive.specs.declared.Kind.TheVariants as kinds
 use Rattle.model_drive.specs.Shown.{Shown, IsOn, IsFormatted, block_count}
-use Rattle.model_drive.specs.Power.{PowerCause}
 use Rattle.model_drive.specs.Formats.{FormatCause}
 use Rattle.model_mirror.specs.declared.Resync.{Resync}
 use Rattle.model_mirror.specs.declared.Resync.TheVariants as resyncs
@@ -19,17 +16,6 @@ use Rattle.model_mirror.specs.Shown.{MirrorShown, mirror_turned_off, led_by}
 use Rattle.model_mirror.specs.Reads.{LeadReads}
 use Rattle.model_mirror.specs.Writes.{WritesSide}
 
--- whether a side was powered on with this capacity
-abbrev pub is_ready_with : ℕ → PowerOut → Bool
-is_ready_with known (powers.Ready other) = other == known
-is_ready_with known _ = false
-
--- Both sides were powered, and answered so. The same side leads as before.
-pub record PowersBoth (old new : MirrorShown) (lead other : PowerOut) : Type 0 where
-  pub led : PowerCause old.lead new.lead lead
-  pub followed : PowerCause old.other new.other other
-  pub same_lead : new.lead_is_a ≡ old.lead_is_a
-
 -- every block of the lead's disc is apart
 abbrev pub all_apart : Shown → List Bool
 all_apart lead = replicate (block_count lead) true
@@ -37,35 +23,6 @@ all_apart lead = replicate (block_count lead) true
 -- none is
 abbrev pub none_apart : Shown → List Bool
 none_apart lead = replicate (block_count lead) false
-
--- The lead is ready with this capacity: so is the other side where it is up, and every block is apart.
-pub record IsReadyWith (old new : MirrorShown) (known : ℕ) : Type 0 where
-  pub told : PowerOut
-  pub both : PowersBoth old new (powers.Ready known) told
-  pub on : new.on ≡ true
-  pub up : new.up ≡ is_ready_with known told
-  pub table : new.table ≡ all_apart new.lead
-
--- The lead's disc is not formatted.
-pub record IsBareMirror (old new : MirrorShown) : Type 0 where
-  pub told : PowerOut
-  pub both : PowersBoth old new powers.NotFormatted told
-  pub on : new.on ≡ true
-  pub up : new.up ≡ false
-
--- The lead was stopped, and the mirror stays off.
-pub record StaysOff (old new : MirrorShown) (lead : PowerOut) : Type 0 where
-  pub told : PowerOut
-  pub both : PowersBoth old new lead told
-  pub on : new.on ≡ false
-  pub up : new.up ≡ false
-
--- The cause of each answer of the turning on of the power.
-abbrev pub MirrorPowerCause : MirrorShown → MirrorShown → PowerOut → Type 0
-MirrorPowerCause old new (powers.Ready known) = IsReadyWith old new known
-MirrorPowerCause old new powers.NotFormatted = IsBareMirror old new
-MirrorPowerCause old new powers.Cut = StaysOff old new powers.Cut
-MirrorPowerCause old new powers.Fault = StaysOff old new powers.Fault
 
 -- the lead was formatted anew, and it went so
 abbrev pub LeadFormats : MirrorShown → MirrorShown → FormatOut → Type 0

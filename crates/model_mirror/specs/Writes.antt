@@ -6,7 +6,8 @@ use Rattle.model_drive.specs.Shown.{Shown}
 use Rattle.model_drive.specs.Writes.{WriteCause}
 use Rattle.model_cache.specs.Chains.{LeavesSound}
 use Rattle.model_mirror.specs.Table.{AreMarked, is_covered, is_wholly_covered, is_covered_before, is_covered_from}
-use Rattle.model_mirror.specs.Shown.{MirrorShown, may_lead, handed_over, mirror_turned_off, led_by}
+use Rattle.model_mirror.specs.Shown.{MirrorShown, mirror_turned_off, led_by}
+use Rattle.model_mirror.specs.Taking.{TakesLead}
 
 -- a side was written, and it went so
 pub record WritesSide (old new : Shown) (lba n : ℕ) (out : WriteOut) : Type 0 where
@@ -74,23 +75,23 @@ after_lone_write outs.Cut shown = mirror_turned_off shown
 after_lone_write outs.Fault shown = mirror_turned_off shown
 after_lone_write _ shown = shown
 
--- The lead was stopped. The other side may lead: it does, and all is written there. Else the mirror is off.
+-- The lead was stopped. The other side takes it, with its record, and all is written there.
 pub record WritesElsewhere (old new : MirrorShown) (lba n : ℕ) (out : WriteOut) : Type 0 where
   pub mid : MirrorShown
   pub lost : WriteOut
   pub stopped : write_is_stopped lost ≡ true
   pub led : LeadWrites old mid lba n lost
-  pub may : may_lead mid ≡ true
-  pub wrote : WritesSide mid.other new.lead lba n out
-  pub new_is : new ≡ after_lone_write out (led_by (handed_over mid) new.lead)
+  pub late : MirrorShown
+  pub takes : TakesLead mid late true
+  pub wrote : WritesSide late.lead new.lead lba n out
+  pub new_is : new ≡ after_lone_write out (led_by late new.lead)
 
--- The lead was stopped, and the other side may not lead: the mirror is off.
+-- The lead was stopped, and the other side does not take it: the mirror is off.
 pub record WriteStopped (old new : MirrorShown) (lba n : ℕ) (out : WriteOut) : Type 0 where
   pub mid : MirrorShown
   pub stopped : write_is_stopped out ≡ true
   pub led : LeadWrites old mid lba n out
-  pub may_not : may_lead mid ≡ false
-  pub new_is : new ≡ mirror_turned_off mid
+  pub takes : TakesLead mid new false
 
 -- the write of a mirror that is on
 abbrev pub WritesWithSides : MirrorShown → MirrorShown → (lba n : ℕ) → WriteOut → Type 0

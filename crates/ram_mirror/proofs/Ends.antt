@@ -6,26 +6,35 @@ use Rattle.model_drive.specs.declared.WriteOut.{WriteOut}
 use Rattle.model_drive.specs.declared.WriteOut.TheVariants as writes
 use Rattle.model_drive.specs.Shown.{Shown, StandsFor}
 use Rattle.model_drive.specs.Writes.{WriteStep}
-use Rattle.model_mirror.specs.Shown.{MirrorShown, led_by, mirror_turned_off, may_lead, handed_over}
+use Rattle.model_mirror.specs.Leading.{Leading}
+use Rattle.model_mirror.specs.Shown.{MirrorShown, led_by, mirror_turned_off}
+use Rattle.model_mirror.specs.Taking.{IsTaken, TakeStep}
 use Rattle.model_mirror.specs.Standing.{MirrorStands}
 use Rattle.model_mirror.specs.Writes.{write_is_stopped, after_lone_write}
 use Rattle.model_mirror.proofs.Somehow.{write_somehow}
 use Rattle.model_mirror.proofs.WriteSteps.{elsewhere_write, off_lead}
 
+-- a mirror whose lead and other side are these
+abbrev pub keeping : MirrorShown → (on up : Bool) → List Bool → Leading → MirrorShown
+keeping mid on up table who = record { lead = mid.lead; other = mid.other; lead_is_a = mid.lead_is_a; on = on; up = up; table = table; who = who }
+
+-- two such mirrors are alike where what they keep is
+pub kept_as : (mid : MirrorShown) (on on' up up' : Bool) (table table' : List Bool) (who who' : Leading) → on ≡ on' → up ≡ up' → table ≡ table' → who ≡ who' → keeping mid on up table who ≡ keeping mid on' up' table' who'
+kept_as mid on on' up up' table table' who who' a b c d =
+    ap (λ (x : Bool). keeping mid x up table who) a ∙ ap (λ (x : Bool). keeping mid on' x table who) b ∙ ap (λ (x : List Bool). keeping mid on' up' x who) c ∙ ap (λ (x : Leading). keeping mid on' up' table' x) d
+
 -- only the table is another, where the flags are as before
-pub only_table : (mid : MirrorShown) (on up : Bool) (table : List Bool) → on ≡ mid.on → up ≡ mid.up
-    → record { lead = mid.lead; other = mid.other; lead_is_a = mid.lead_is_a; on = on; up = up; table = table } ≡ record mid { table = table }
-only_table mid on up table same_on same_up =
-    ap (λ (b : Bool). record { lead = mid.lead; other = mid.other; lead_is_a = mid.lead_is_a; on = b; up = up; table = table }) same_on
-    ∙ ap (λ (b : Bool). record { lead = mid.lead; other = mid.other; lead_is_a = mid.lead_is_a; on = mid.on; up = b; table = table }) same_up
+pub only_table : (mid : MirrorShown) (on up : Bool) (table : List Bool) (who : Leading) → on ≡ mid.on → up ≡ mid.up → who ≡ mid.who
+    → record { lead = mid.lead; other = mid.other; lead_is_a = mid.lead_is_a; on = on; up = up; table = table; who = who } ≡ record mid { table = table }
+only_table mid on up table who same_on same_up same_who =
+    ap (λ (b : Bool). keeping mid b up table who) same_on ∙ ap (λ (b : Bool). keeping mid mid.on b table who) same_up ∙ ap (λ (w : Leading). keeping mid mid.on mid.up table w) same_who
 
 -- the mirror is off, and the table as before
-pub all_off : (mid : MirrorShown) (on up : Bool) (table : List Bool) → on ≡ false → up ≡ false → table ≡ mid.table
-    → record { lead = mid.lead; other = mid.other; lead_is_a = mid.lead_is_a; on = on; up = up; table = table } ≡ mirror_turned_off mid
-all_off mid on up table off down same =
-    ap (λ (b : Bool). record { lead = mid.lead; other = mid.other; lead_is_a = mid.lead_is_a; on = b; up = up; table = table }) off
-    ∙ ap (λ (b : Bool). record { lead = mid.lead; other = mid.other; lead_is_a = mid.lead_is_a; on = false; up = b; table = table }) down
-    ∙ ap (λ (t : List Bool). record { lead = mid.lead; other = mid.other; lead_is_a = mid.lead_is_a; on = false; up = false; table = t }) same
+pub all_off : (mid : MirrorShown) (on up : Bool) (table : List Bool) (who : Leading) → on ≡ false → up ≡ false → table ≡ mid.table → who ≡ mid.who
+    → record { lead = mid.lead; other = mid.other; lead_is_a = mid.lead_is_a; on = on; up = up; table = table; who = who } ≡ mirror_turned_off mid
+all_off mid on up table who off down same same_who =
+    ap (λ (b : Bool). keeping mid b up table who) off ∙ ap (λ (b : Bool). keeping mid false b table who) down ∙ ap (λ (t : List Bool). keeping mid false false t who) same
+    ∙ ap (λ (w : Leading). keeping mid false false mid.table w) same_who
 
 -- a write that was cut or failed was stopped
 pub stops : (out : WriteOut) → (out ≡ writes.Cut) ⊎ (out ≡ writes.Fault) → write_is_stopped out ≡ true
@@ -53,12 +62,12 @@ off_stop new after discs lba n bytes (writes.NoUpdate counter) stop step = absur
 off_stop new after discs lba n bytes writes.Off stop step = absurd (let w = stop in cc)
 
 -- the lead was stopped, and the other side took it and was written
-pub elsewhere_any : (lba n : ℕ) (bytes : List ℕ) (old mid new : MirrorShown) (on : old.on ≡ true) (lead other lead' new_lead : Standing → Type 0) (to_shown : (s : Standing) → lead s → StandsFor old.lead s)
-    (whole : length bytes ≡ 2048 * n) (led : mid ≡ led_by old mid.lead) (lost out : WriteOut) → write_is_stopped lost ≡ true → may_lead mid ≡ true
-    → ((s : Standing) → lead s → WriteStep mid.lead lead' s lba n bytes lost) → new ≡ after_lone_write out (led_by (handed_over mid) new.lead)
-    → ((s : Standing) → other s → WriteStep new.lead new_lead s lba n bytes out) → (s : Standing) → MirrorStands old lead other s
+pub elsewhere_any : (lba n : ℕ) (bytes : List ℕ) (old mid late new : MirrorShown) (on : old.on ≡ true) (lead other lead' other₁ new_lead : Standing → Type 0) (to_shown : (s : Standing) → lead s → StandsFor old.lead s)
+    (whole : length bytes ≡ 2048 * n) (led : mid ≡ led_by old mid.lead) (lost out : WriteOut) → write_is_stopped lost ≡ true → IsTaken mid late → TakeStep other other₁ true
+    → ((s : Standing) → lead s → WriteStep mid.lead lead' s lba n bytes lost) → new ≡ after_lone_write out (led_by late new.lead)
+    → ((s : Standing) → other₁ s → WriteStep new.lead new_lead s lba n bytes out) → (s : Standing) → MirrorStands old lead other s
     → WriteStep new.lead (MirrorStands new new_lead lead') s lba n bytes out
-elsewhere_any lba n bytes old mid new on lead other lead' new_lead to_shown whole led lost out stop may lead_step is step (On disc) stood =
-    elsewhere_write lba n bytes old on lead other to_shown whole mid new led lead' new_lead out may (write_somehow lead' mid.lead (On disc) lba n bytes lost (lead_step (On disc) stood.1)) is step disc stood
-elsewhere_any lba n bytes old mid new on lead other lead' new_lead to_shown whole led lost out stop may lead_step is step (Off discs) stood =
+elsewhere_any lba n bytes old mid late new on lead other lead' other₁ new_lead to_shown whole led lost out stop taken take lead_step is step (On disc) stood =
+    elsewhere_write lba n bytes old on lead other to_shown whole mid new led late lead' other₁ new_lead out taken take (write_somehow lead' mid.lead (On disc) lba n bytes lost (lead_step (On disc) stood.1)) is step disc stood
+elsewhere_any lba n bytes old mid late new on lead other lead' other₁ new_lead to_shown whole led lost out stop taken take lead_step is step (Off discs) stood =
     absurd (off_stop mid.lead lead' discs lba n bytes lost stop (lead_step (Off discs) (off_lead lba n bytes old on lead other to_shown whole discs stood)))

@@ -12,6 +12,7 @@ use Rattle.model_drive.specs.FullFormats.{StandsInFormat}
 use Rattle.model_mirror.specs.Shown.{MirrorShown, led_by}
 use Rattle.model_mirror.specs.Standing.{IsFollowed, MirrorStands}
 use Rattle.model_mirror.specs.Whole.{FormatsLead}
+use Rattle.model_mirror.proofs.Somehow.{led_off}
 
 -- a format whose list could not be written leaves the power on
 unlisted_on : (old new : Shown) (counter : ℕ) → FormatCause old new (kinds.Full true) (formats.NoUpdate counter) → IsOn new
@@ -43,12 +44,12 @@ module _ (old mid : MirrorShown) (up : Bool) (counter : ℕ) (capacity : Option 
 
 module _ (old new : MirrorShown) (lead lead' other : Standing → Type 0) where
   stands_in : (shape : Shape) (disc : List ℕ) → IsFollowed old other disc → StandsInFormat shape lead' disc → StandsInFormat shape (MirrorStands new lead' other) disc
-  stands_in shape disc followed (inl a) = inl (a, followed.some)
-  stands_in shape disc followed (inr (inl b)) = inr (inl (b, followed.some))
-  stands_in shape disc followed (inr (inr c)) = inr (inr (c, followed.some))
+  stands_in shape disc followed (inl a) = inl (inl a, followed.some)
+  stands_in shape disc followed (inr (inl b)) = inr (inl (inl b, followed.some))
+  stands_in shape disc followed (inr (inr c)) = inr (inr (inl c, followed.some))
 
   -- the lead failed
-  pub failed_format : ((s : Standing) → lead s → FormatStep old.lead new.lead lead' s (kinds.Full true) formats.Fault)
+  pub failed_format : old.on ≡ true → ((s : Standing) → lead s → FormatStep old.lead new.lead lead' s (kinds.Full true) formats.Fault)
       → (s : Standing) → MirrorStands old lead other s → FormatStep old.lead new.lead (MirrorStands new lead' other) s (kinds.Full true) formats.Fault
-  failed_format step (On disc) (_, so, followed) = stands_in old.lead.shape disc followed (step (On disc) so)
-  failed_format step (Off discs) (so, some) = step (Off discs) so
+  failed_format on step (On disc) (_, so, followed) = stands_in old.lead.shape disc followed (step (On disc) so)
+  failed_format on step (Off discs) stood = step (Off discs) (led_off old on lead other discs stood)

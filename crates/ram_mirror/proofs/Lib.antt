@@ -10,3 +10,9 @@ mod ReadLoop
 mod ReadKept
 mod Formats
 mod Passing
+mod Handover
+mod ByHand
+mod TurnedBack
+mod Woken
+mod Started
+mod Powered

@@ -11,6 +11,7 @@ use Rattle.model_drive.specs.Reads.{VerifyStep}
 use Rattle.model_drive.specs.Shown.{IsOn, block_count}
 use Rattle.model_drive.specs.Tells.{HasDisc}
 use Rattle.model_mirror.specs.Shown.{MirrorShown, mirror_turned_off}
+use Rattle.model_mirror.proofs.Somehow.{led_off}
 use Rattle.model_mirror.specs.Standing.{MirrorStands}
 use Rattle.model_mirror.specs.Reads.{LeadReads, read_is_stopped}
 use Rattle.model_mirror.specs.declared.Resync.TheVariants as resyncs
@@ -141,20 +142,20 @@ module _ (start now new : MirrorShown) (k : ℕ) (lead other lead₁ other₁ le
       }
       go false due (same, good) = absurd (let e : true ≡ false = sym stop ∙ ap read_is_stopped good in cc)
 
-  pub passing_step : (on_lead : IsOn start.lead) → ((discs : List (List ℕ)) → lead (Off discs) → IsOn start.lead → ⊥) → (out : ReadOut)
+  pub passing_step : (on : start.on ≡ true) (on_lead : IsOn start.lead) → ((discs : List (List ℕ)) → lead (Off discs) → IsOn start.lead → ⊥) → (out : ReadOut)
       → ((s : Standing) → MirrorStands now lead₁ other₁ s → VerifyStep (MirrorStands new lead₂ other₂) s out)
       → (s : Standing) → MirrorStands start lead other s → VerifyStep (MirrorStands new lead₂ other₂) s out
-  passing_step on_lead not_off out step (On disc) so = step (On disc) (far.stands disc so)
-  passing_step on_lead not_off out step (Off discs) (so, some) = absurd (not_off discs so on_lead)
+  passing_step on on_lead not_off out step (On disc) so = step (On disc) (far.stands disc so)
+  passing_step on on_lead not_off out step (Off discs) stood = absurd (not_off discs (led_off start on lead other discs stood) on_lead)
 
 -- all blocks were passed
 pub all_passed : (start now : MirrorShown) (k : ℕ) (lead other lead₁ other₁ : Standing → Type 0) → HasPassed start now k lead other lead₁ other₁ → k ≡ block_count start.lead → CopiesAll start now reads.Good
 all_passed start now k lead other lead₁ other₁ far all = record { disc = far.disc; copies = subst (CopiesBlocks start now) all far.copies }
 
-pub all_stand : (start now : MirrorShown) (k : ℕ) (lead other lead₁ other₁ : Standing → Type 0) → HasPassed start now k lead other lead₁ other₁ → IsOn start.lead
+pub all_stand : (start now : MirrorShown) (k : ℕ) (lead other lead₁ other₁ : Standing → Type 0) → HasPassed start now k lead other lead₁ other₁ → start.on ≡ true → IsOn start.lead
     → ((discs : List (List ℕ)) → lead (Off discs) → IsOn start.lead → ⊥) → (s : Standing) → MirrorStands start lead other s → VerifyStep (MirrorStands now lead₁ other₁) s reads.Good
-all_stand start now k lead other lead₁ other₁ far on_lead not_off (On disc) so = far.stands disc so
-all_stand start now k lead other lead₁ other₁ far on_lead not_off (Off discs) (so, some) = absurd (not_off discs so on_lead)
+all_stand start now k lead other lead₁ other₁ far on on_lead not_off (On disc) so = far.stands disc so
+all_stand start now k lead other lead₁ other₁ far on on_lead not_off (Off discs) stood = absurd (not_off discs (led_off start on lead other discs stood) on_lead)
 
 -- where the lead was not stopped all blocks were gone through
 pub all_good : (old new : MirrorShown) (out : ReadOut) → CopiesAll old new out → out ≢ reads.Cut → out ≢ reads.Fault → out ≡ reads.Good

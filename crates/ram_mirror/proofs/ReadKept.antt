@@ -4,10 +4,12 @@ use Rattle.model_sectors.specs.Discs.{Standing, On, Off}
 use Rattle.model_sectors.specs.declared.ReadOut.{ReadOut}
 use Rattle.model_sectors.specs.declared.ReadOut.TheVariants as reads
 use Rattle.model_drive.specs.Reads.{ReadStep}
-use Rattle.model_mirror.specs.Shown.{MirrorShown, may_lead, handed_over, led_by}
+use Rattle.model_mirror.specs.Shown.{MirrorShown, led_by}
+use Rattle.model_mirror.specs.Taking.{IsTaken, TakeStep}
+use Rattle.model_mirror.proofs.Somehow.{led_off}
 use Rattle.model_mirror.specs.Standing.{StandsSomehow, IsFollowed, MirrorStands}
 use Rattle.model_mirror.specs.Reads.{read_is_stopped, after_lone_read}
-use Rattle.model_mirror.proofs.Handing.{takes_the_lead, alone_read, read_elsewhere}
+use Rattle.model_mirror.proofs.Handing.{takes_the_lead, taken_alone, alone_read, read_elsewhere}
 use Rattle.ram_mirror.specs.Reading.{AllGives, OffGives}
 
 -- a lead that is off refuses
@@ -44,7 +46,7 @@ module _ (old mid : MirrorShown) (lead lead' other other' : Standing → Type 0)
       go reads.Cut stop p = absurd (let w = stop in cc)
       go reads.Off stop p = absurd p
       go reads.Fault stop p = absurd (let w = stop in cc)
-  kept_read go_on (Off discs) (so, some) = go out (off discs so some)
+  kept_read go_on (Off discs) stood = go out (off discs (led_off old on lead other discs stood) stood.1)
     where
       go : (out : ReadOut) → OffGives lead' other' discs out → ReadStep (MirrorStands mid lead' other') (Off discs) lba n into out
       go reads.Good p = absurd p
@@ -52,7 +54,7 @@ module _ (old mid : MirrorShown) (lead lead' other other' : Standing → Type 0)
       go (reads.Range known) p = absurd p
       go (reads.Unread named home) p = absurd p
       go reads.Cut p = absurd p
-      go reads.Off p = p
+      go reads.Off p = (inl p.0, p.1)
       go reads.Fault p = absurd p
 
   -- what a lead that was stopped leaves
@@ -81,25 +83,27 @@ module _ (old mid : MirrorShown) (lead lead' other other' : Standing → Type 0)
       go reads.Fault stop p = p
 
   -- it was stopped, and the mirror is off
-  pub stopped_read : (new : MirrorShown) → read_is_stopped out ≡ true → (s : Standing) → MirrorStands old lead other s → ReadStep (MirrorStands new lead' other') s lba n into out
-  stopped_read new stop (On disc) (_, so, followed) = go out stop (stopped_gives stop disc so followed)
+  pub stopped_read : (new : MirrorShown) (other₁ : Standing → Type 0) → TakeStep other' other₁ false → read_is_stopped out ≡ true → (s : Standing) → MirrorStands old lead other s
+      → ReadStep (MirrorStands new lead' other₁) s lba n into out
+  stopped_read new other₁ take stop (On disc) (_, so, followed) = go out stop (stopped_gives stop disc so followed)
     where
-      go : (out : ReadOut) → read_is_stopped out ≡ true → lead' (Off (disc ∷ [])) × IsFollowed mid other' disc → ReadStep (MirrorStands new lead' other') (On disc) lba n into out
+      go : (out : ReadOut) → read_is_stopped out ≡ true → lead' (Off (disc ∷ [])) × IsFollowed mid other' disc → ReadStep (MirrorStands new lead' other₁) (On disc) lba n into out
       go reads.Good stop p = absurd (let w = stop in cc)
       go reads.NotFormatted stop p = absurd (let w = stop in cc)
       go (reads.Range known) stop p = absurd (let w = stop in cc)
       go (reads.Unread named home) stop p = absurd (let w = stop in cc)
-      go reads.Cut stop p = (p.0, p.1.some)
+      go reads.Cut stop p = (inl p.0, take p.1.some.standing p.1.some.stands)
       go reads.Off stop p = absurd (let w = stop in cc)
-      go reads.Fault stop p = (p.0, p.1.some)
-  stopped_read new stop (Off discs) (so, some) = absurd (not_off stop discs so some)
+      go reads.Fault stop p = (inl p.0, take p.1.some.standing p.1.some.stands)
+  stopped_read new other₁ take stop (Off discs) stood = absurd (not_off stop discs (led_off old on lead other discs stood) stood.1)
 
   -- it was stopped, and all was read by the side that took the lead
-  pub given_read : (new : MirrorShown) (into' : List ℕ) (told : ReadOut) (new_lead : Standing → Type 0) → read_is_stopped out ≡ true → may_lead mid ≡ true
-      → ((s : Standing) → other' s → ReadStep new_lead s lba n into' told) → new ≡ after_lone_read told (led_by (handed_over mid) new.lead)
+  pub given_read : (late new : MirrorShown) (into' : List ℕ) (told : ReadOut) (other₁ new_lead : Standing → Type 0) → read_is_stopped out ≡ true → IsTaken mid late → TakeStep other' other₁ true
+      → ((s : Standing) → other₁ s → ReadStep new_lead s lba n into' told) → new ≡ after_lone_read told (led_by late new.lead)
       → (s : Standing) → MirrorStands old lead other s → ReadStep (MirrorStands new new_lead lead') s lba n into' told
-  given_read new into' told new_lead stop may step is (On disc) (_, so, followed) =
+  given_read late new into' told other₁ new_lead stop taken take step is (On disc) (_, so, followed) =
       let left = stopped_gives stop disc so followed in
-      let ends = read_elsewhere mid new new_lead lead' told is in
-      alone_read new new_lead lead' ends.0 (record { standing = Off (disc ∷ []); stands = left.0 }) disc lba n into' told ends.1 (step (On disc) (takes_the_lead mid other' disc left.1 may))
-  given_read new into' told new_lead stop may step is (Off discs) (so, some) = absurd (not_off stop discs so some)
+      let alone = taken_alone mid late taken in
+      let ends = read_elsewhere late new alone.0 alone.1 told is in
+      alone_read new new_lead lead' ends.0 (record { standing = Off (disc ∷ []); stands = left.0 }) disc lba n into' told ends.1 (step (On disc) (take disc (takes_the_lead mid other' disc left.1 taken.may)))
+  given_read late new into' told other₁ new_lead stop taken take step is (Off discs) stood = absurd (not_off stop discs (led_off old on lead other discs stood) stood.1)

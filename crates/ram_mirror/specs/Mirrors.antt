@@ -26,10 +26,14 @@ module _ {A B : Type 0} (a : Drives A) (b : Drives B) where
   abbrev pub mirror_stands : Mirror A B → Standing → Type 0
   mirror_stands mirror s = stands_roles mirror.lead_is_a mirror.a mirror.b mirror.following s
 
--- It is off, these are its sides, and the first one leads.
+-- It is off, these are its sides, and it is not known who leads.
 pub record IsNew {A B : Type 0} (mirror : Mirror A B) (a : A) (b : B) : Type 0 where
   pub a_is : mirror.a ≡ a
   pub b_is : mirror.b ≡ b
   pub lead : mirror.lead_is_a ≡ true
   pub on : mirror.following.on ≡ false
   pub up : mirror.following.up ≡ false
+  pub known : mirror.following.who.known ≡ false
+  pub by_hand : mirror.following.who.by_hand ≡ false
+  pub lead_seen : mirror.following.who.lead.seen ≡ false
+  pub other_seen : mirror.following.who.other.seen ≡ false

@@ -1,6 +1,6 @@
 -- What two sides show and stand for with what a mirror keeps beside them, and how a call ended that may give the lead. (This
 -- project's own.)
-use Rattle.std.specs.Prelude.{◌≡◌, ◌*◌, Bool, not, MatchBool, ℕ, List}
+use Rattle.std.specs.Prelude.{◌≡◌, ◌*◌, Bool, true, false, not, MatchBool, ℕ, List}
 use Rattle.model_sectors.specs.Discs.{Standing}
 use Rattle.model_drive.specs.declared.WriteOut.{WriteOut}
 use Rattle.model_drive.specs.Shown.{Shown}
@@ -8,6 +8,7 @@ use Rattle.model_drive.specs.Reads.{ReadStep}
 use Rattle.model_drive.specs.Writes.{WriteStep}
 use Rattle.model_sectors.specs.declared.ReadOut.{ReadOut}
 use Rattle.model_mirror.specs.Shown.{MirrorShown, mirror_turned_off}
+use Rattle.model_mirror.specs.Taking.{TakesLead}
 use Rattle.model_mirror.specs.Reads.{LeadReads, ReadsWithSides, read_is_stopped}
 use Rattle.model_mirror.specs.Whole.{CopyGoesOn}
 use Rattle.model_mirror.specs.Standing.{MirrorStands}
@@ -17,6 +18,7 @@ use Rattle.ram_mirror.specs.declared.following.Following.{Following}
 use Rattle.ram_mirror.specs.declared.following.Led.{Led}
 use Rattle.ram_mirror.specs.declared.following.Led.TheVariants as leds
 use Rattle.ram_mirror.specs.Tables.{entries_of}
+use Rattle.ram_mirror.specs.Notes.{leading_of}
 
 -- what a mirror shows whose lead and other side show this
 abbrev pub shown_as : Bool → Shown → Shown → Following → MirrorShown
@@ -27,7 +29,13 @@ shown_as lead_is_a lead other following = record {
   on = following.on;
   up = following.up;
   table = entries_of following.table;
+  who = leading_of following.who;
 }
+
+-- The other side took the lead, or did not: where it did the roles are exchanged.
+abbrev pub TakesAs : Bool → (lead other : Shown) → Following → (other' : Shown) → Following → Bool → Type 0
+TakesAs side lead other was other' now true = TakesLead (shown_as side lead other was) (shown_as (not side) other' lead now) true
+TakesAs side lead other was other' now false = TakesLead (shown_as side lead other was) (shown_as side lead other' now) false
 
 module _ {L O : Type 0} (l : Drives L) (o : Drives O) where
   -- what a mirror shows whose lead and other side are these

@@ -7,18 +7,24 @@ ghost use Rattle.model_mirror.specs.Table.{some_apart, is_covered, is_covered_be
 ghost use Rattle.model_mirror.specs.Writes.{OtherEnds};
 ghost use Rattle.model_mirror.specs.Reads.{up_after_read};
 ghost use Rattle.model_mirror.specs.Whole.{CopyEnds};
+ghost use Rattle.model_mirror.specs.declared.MirrorPowerOut.TheVariants as outs;
+ghost use Rattle.model_mirror.specs.Leading.{handed_leading, forgotten_leading};
+ghost use Rattle.ram_mirror.specs.Notes.{leading_of};
 ghost use Rattle.ram_mirror.specs.Tables.{entries_of};
 ghost use Rattle.ram_mirror.specs.Sides.{shown_as};
 
+use crate::noted::Leading;
 use crate::table::ApartTable;
+use model_mirror::MirrorPowerOut;
 use ram_sectors::{ReadOut, WriteOut};
 
-/// Whether the mirror is on, whether the side that does not lead is up, and which blocks are apart.
+/// Whether the mirror is on, whether the side that does not lead is up, which blocks are apart, and who leads.
 #[derive(Drop)]
 pub struct Following {
     pub(crate) on: bool,
     pub(crate) up: bool,
     pub(crate) table: ApartTable,
+    pub(crate) who: Leading,
 }
 
 /// How a call ended: the side that led leads still, or the lead is given to the other one.
@@ -43,9 +49,37 @@ impl Following {
         ensures on { self.new.on ≡ false }
         ensures up { self.new.up ≡ false }
         ensures table { self.new.table ≡ self.old.table }
+        ensures who { self.new.who ≡ self.old.who }
     {
         self.on = false;
         self.up = false;
+    }
+
+    /// The other side has the lead, and the side that had it is down.
+    pub(crate) fn hand_over(&mut self)
+        ensures on { self.new.on ≡ true }
+        ensures up { self.new.up ≡ false }
+        ensures table { self.new.table ≡ self.old.table }
+        ensures who { leading_of self.new.who ≡ handed_leading (leading_of self.old.who) }
+    {
+        self.on = true;
+        self.up = false;
+        self.who.by_hand = false;
+        self.who.exchange();
+    }
+
+    /// The mirror is off, and it is not known who leads.
+    pub(crate) fn forget(&mut self) -> MirrorPowerOut
+        ensures on { self.new.on ≡ false }
+        ensures up { self.new.up ≡ false }
+        ensures table { self.new.table ≡ self.old.table }
+        ensures who { leading_of self.new.who ≡ forgotten_leading (leading_of self.old.who) }
+        ensures unknown { result ≡ outs.Unknown }
+    {
+        self.turn_off();
+        self.who.known = false;
+        self.who.by_hand = false;
+        MirrorPowerOut::Unknown
     }
 
     /// After a write of the other side, which the lead has written: blocks that both have written wholly are not apart, and those that
@@ -82,6 +116,7 @@ impl Following {
         ensures up { self.new.up ≡ up_after_read told }
         ensures on { self.new.on ≡ self.old.on }
         ensures table { self.new.table ≡ self.old.table }
+        ensures who { self.new.who ≡ self.old.who }
     {
         self.up = match told {
             ReadOut::Good | ReadOut::Unread { .. } => true,
@@ -117,6 +152,7 @@ impl Following {
             (entries_of self.new.table) }
         ensures on { self.new.on ≡ self.old.on }
         ensures up { self.new.up ≡ self.old.up }
+        ensures who { self.new.who ≡ self.old.who }
     {
         let first = u64::from(lba) / 16;
         self.table
@@ -129,6 +165,7 @@ impl Following {
             (entries_of self.new.table) }
         ensures on { self.new.on ≡ self.old.on }
         ensures up { self.new.up ≡ self.old.up }
+        ensures who { self.new.who ≡ self.old.who }
     {
         self.table.mark(u64::from(lba) / 16, covered(lba, n), true);
     }
@@ -138,6 +175,7 @@ impl Following {
         ensures up { self.new.up ≡ (self.old.up && is_some capacity) }
         ensures on { self.new.on ≡ self.old.on }
         ensures table { self.new.table ≡ self.old.table }
+        ensures who { self.new.who ≡ self.old.who }
     {
         self.up = self.up && capacity.is_some();
     }

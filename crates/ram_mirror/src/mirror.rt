@@ -1,39 +1,47 @@
 //! A mirror of two discs, and its calls.
 
-ghost use Rattle.std.specs.Prelude.{◌≡◌, ◌≤◌, ◌+◌, ◌*◌, true, length};
+ghost use Rattle.std.specs.Prelude.{◌≡◌, ◌≤◌, ◌+◌, ◌*◌, not, true, length};
 ghost use Rattle.model_commands.specs.declared.TheConstants.{TRANSFER_LIMIT};
 ghost use Rattle.model_sectors.specs.Discs.{Standing};
 ghost use Rattle.model_drive.specs.declared.Kind.TheVariants as kinds;
 ghost use Rattle.model_drive.specs.Formats.{FormatStep};
-ghost use Rattle.model_drive.specs.Power.{PowerStep};
 ghost use Rattle.model_drive.specs.Reads.{ReadStep};
 ghost use Rattle.model_drive.specs.Writes.{WriteStep};
 ghost use Rattle.model_mirror.specs.Shown.{told_apart};
 ghost use Rattle.model_mirror.specs.Steps.{ResyncStep};
 ghost use Rattle.model_mirror.specs.Reads.{MirrorReadCause};
-ghost use Rattle.model_mirror.specs.Whole.{MirrorPowerCause, MirrorFormatCause, ResyncCause};
+ghost use Rattle.model_mirror.specs.Powers.{MirrorPowerCause, MirrorPowerStep};
+ghost use Rattle.model_mirror.specs.Giving.{GiveLeadCause, GiveStepOf, leader_of};
+ghost use Rattle.model_mirror.specs.Whole.{MirrorFormatCause, ResyncCause};
 ghost use Rattle.model_mirror.specs.Writes.{MirrorWriteCause};
 ghost use Rattle.ram_mirror.specs.declared.mirror.TheConstants.{MIRROR_MEMORY};
 
 use crate::following::{Following, Led};
 use crate::formatting::format_on;
+use crate::giving::{give_over, give_to, is_given};
+use crate::noted::Leading;
 use crate::power::power_both;
 use crate::reading::read_on;
 use crate::resync::resync_on;
 use crate::table::{ApartTable, TABLE_MEMORY};
 use crate::writing::write_on;
-use model_mirror::Resync;
+use model_mirror::{GiveOut, Leader, MirrorPowerOut, Resync};
 use ram_bytes::{BLOCK_BYTES, Block, Budget, MemoryRefused};
-use ram_sectors::{Disc, FormatOut, PowerOut, ReadOut, Sectors, WriteOut};
+use ram_record::{LeadRecord, REGIONS};
+use ram_sectors::{Disc, FormatOut, ReadOut, Sectors, WriteOut};
 
-/// How many bytes a mirror asks for beside its sides: its table, and a block.
-pub const MIRROR_MEMORY: usize = TABLE_MEMORY + BLOCK_BYTES;
+/// How many bytes a mirror asks for beside its sides: its table, a block, and three records of the lead.
+pub const MIRROR_MEMORY: usize = TABLE_MEMORY + BLOCK_BYTES + 3 * REGIONS;
 
-/// The memory that a mirror works in: a table for any disc, and room for a block that is copied. All of it is taken here.
+/// The memory that a mirror works in: a table for any disc, room for a block that is copied, and for the record of each side and one
+/// more. All of it is taken here.
 #[derive(Drop)]
 pub struct MirrorRooms {
     table: ApartTable,
     block: Block,
+    lead: LeadRecord,
+    other: LeadRecord,
+    looked_at: LeadRecord,
 }
 
 impl MirrorRooms {
@@ -50,6 +58,9 @@ impl MirrorRooms {
         Ok(MirrorRooms {
             table: ApartTable::new(budget)?,
             block: Block::zeros(budget)?,
+            lead: LeadRecord::new(budget)?,
+            other: LeadRecord::new(budget)?,
+            looked_at: LeadRecord::new(budget)?,
         })
     }
 }
@@ -58,19 +69,20 @@ impl MirrorRooms {
 /// lent.
 #[derive(Drop)]
 pub struct Mirror<A: Disc, B: Disc> {
-    /// The side that leads at first.
+    /// The first side, which leads where nothing tells the two apart.
     pub a: A,
     /// The other one.
     pub b: B,
     pub(crate) lead_is_a: bool,
     pub(crate) following: Following,
     room: Block,
+    looked_at: LeadRecord,
 }
 
 impl<A: Disc, B: Disc> Mirror<A, B> {
     ghost use Rattle.ram_mirror.specs.Mirrors.{IsNew, mirror_shows, mirror_stands};
 
-    /// A mirror of these sides, which is off; side `a` leads.
+    /// A mirror of these sides, which is off. It is not known who leads.
     ///
     /// # Clauses
     ///
@@ -86,8 +98,10 @@ impl<A: Disc, B: Disc> Mirror<A, B> {
                 on: false,
                 up: false,
                 table: rooms.table,
+                who: Leading::unknown(rooms.lead, rooms.other),
             },
             room: rooms.block,
+            looked_at: rooms.looked_at,
         }
     }
 
@@ -105,11 +119,15 @@ impl<A: Disc, B: Disc> Mirror<A, B> {
             b,
             following,
             room,
+            looked_at,
             ..
         } = self;
         let rooms = MirrorRooms {
             table: following.table,
             block: room,
+            lead: following.who.lead.held,
+            other: following.who.other.held,
+            looked_at,
         };
         (rooms, a, b)
     }
@@ -215,31 +233,87 @@ impl<A: Disc, B: Disc> Mirror<A, B> {
         }
     }
 
-    /// Turns the power of both sides off and on again. The same side leads as before, and the answer is its own. The other side is up where
-    /// it is ready with the lead's capacity, and every block is apart.
+    /// Turns the power of both sides off and on again, and reads the record of each. Where it is not known who leads, the greater number
+    /// does, and of equal ones side `a`; else the same side as before. The answer is that of the lead. The other side is up where it is
+    /// ready with the lead's capacity, and every block is apart. Before it answers, the number of the lead is greater than any that the
+    /// other side may have.
     ///
     /// # Clauses
     ///
-    /// - `cause`, `step`: `MirrorPowerCause`; `PowerStep`.
+    /// - `cause`, `step`: `MirrorPowerCause`: both sides wake, and one of them starts; `MirrorPowerStep`, from what both sides stood
+    ///   for.
     ///
     /// # Answers
     ///
-    /// - `Ready`: the lead is. Then: every block is apart; the other side is up where it is ready with this capacity.
-    ///   (`IsReadyWith`)
-    /// - `NotFormatted`: the lead is not formatted. Then: the other side is down. (`IsBareMirror`)
-    /// - `Cut`, `Fault`: the lead was stopped. Then: the mirror is off. (`StaysOff`)
-    pub fn power(&mut self) -> PowerOut
+    /// - `Ready`: the lead is, its number is at least 2 and above any that the other side may have, and that one has at least 1 or
+    ///   was stopped. Then: every block is apart; the other side is up where it is ready with this capacity. (`IsReadyNow`)
+    /// - `NotFormatted`: so, and the lead is not formatted. Then: the other side is down. (`IsBareNow`)
+    /// - `Unknown`: it is not known who leads and a record could not be read; or one is lost, and the lead was not given by hand or
+    ///   its own is; or nothing is known of the record of a side that was stopped; or the lead could not get a greater number.
+    ///   Then: the mirror is off, and nobody leads. (`NobodyLeads`)
+    /// - `Cut`, `Fault`: the lead was stopped. Then: the mirror is off. (`LeadStops`, `GoesOn`)
+    pub fn power(&mut self) -> MirrorPowerOut
         ensures cause { MirrorPowerCause (mirror_shows A.Sectors B.Sectors self.old)
             (mirror_shows A.Sectors B.Sectors self.new) result }
-        ensures step { (s : Standing) → mirror_stands A.Sectors B.Sectors self.old s
-            → PowerStep (mirror_shows A.Sectors B.Sectors self.new).lead
-            (mirror_stands A.Sectors B.Sectors self.new) s result }
+        ensures step { (s t : Standing) → A.stands self.old.a s → B.stands self.old.b t
+            → MirrorPowerStep (mirror_shows A.Sectors B.Sectors self.new) (mirror_stands A.Sectors B.Sectors self.new)
+            (A.stands self.new.a) (B.stands self.new.b) s t result }
     {
+        let room = &mut self.looked_at;
         if self.lead_is_a {
-            power_both(&mut self.a, &mut self.b, &mut self.following)
+            match power_both(true, &mut self.a, &mut self.b, &mut self.following, room) {
+                Led::Kept(out) => out,
+                Led::Given(out) => {
+                    self.lead_is_a = false;
+                    out
+                }
+            }
         } else {
-            power_both(&mut self.b, &mut self.a, &mut self.following)
+            match power_both(false, &mut self.b, &mut self.a, &mut self.following, room) {
+                Led::Kept(out) => out,
+                Led::Given(out) => {
+                    self.lead_is_a = true;
+                    out
+                }
+            }
         }
+    }
+
+    /// Gives the lead to a side by hand: to side `a`, or to side `b`. Its record is made one with a number above that of the other side,
+    /// as far as that is known. The mirror is off then until the next power on, which keeps this lead.
+    ///
+    /// # Clauses
+    ///
+    /// - `cause`, `step_a`, `step_b`: `GiveLeadCause`; `GiveStep` of the side that is meant, and the other one is as before.
+    ///
+    /// # Answers
+    ///
+    /// - `Given`: the record has such a number. Then: this side leads. (`IsGiven`)
+    /// - `NoUpdate`: the record is lost, or the other side has the last number; the number that was due is told, or the last.
+    ///   Then: who leads is as before. (`IsNotGiven`)
+    /// - `Cut`, `Fault`: the side was stopped while its record was written. Then: who leads is as before. (`IsNotGiven`)
+    /// - `Off`: exactly when the power of this side is off. Then: nothing changed. (`Gives`)
+    pub fn give_lead(&mut self, to_a: bool) -> GiveOut
+        ensures cause { GiveLeadCause (mirror_shows A.Sectors B.Sectors self.old)
+            (mirror_shows A.Sectors B.Sectors self.new) to_a result }
+        ensures step_a { (s : Standing) → A.stands self.old.a s → GiveStepOf to_a (A.stands self.new.a) s result }
+        ensures step_b { (s : Standing) → B.stands self.old.b s
+            → GiveStepOf (not to_a) (B.stands self.new.b) s result }
+    {
+        if to_a {
+            if self.lead_is_a {
+                return give_to(&mut self.a, &mut self.following);
+            }
+            let out = give_over(&mut self.a, &mut self.following);
+            self.lead_is_a = is_given(out);
+            return out;
+        }
+        if !self.lead_is_a {
+            return give_to(&mut self.b, &mut self.following);
+        }
+        let out = give_over(&mut self.b, &mut self.following);
+        self.lead_is_a = !is_given(out);
+        out
     }
 
     /// Formats the lead anew, without a memory of what was defective, and where that is good the other side too. The answer is the lead's.
@@ -314,7 +388,7 @@ impl<A: Disc, B: Disc> Mirror<A, B> {
         }
     }
 
-    /// Whether side `a` leads.
+    /// Who leads, as far as it is known.
     ///
     /// # Clauses
     ///
@@ -322,11 +396,18 @@ impl<A: Disc, B: Disc> Mirror<A, B> {
     ///
     /// # Answers
     ///
-    /// - `true`, `false`: whether side `a` leads. (`mirror_shows`)
-    pub fn lead_is_a(&self) -> bool
-        ensures { result ≡ (mirror_shows A.Sectors B.Sectors self.now).lead_is_a }
+    /// - `A`, `B`: this side leads. (`leader_of`)
+    /// - `Unknown`: no power on has told yet, or the last one could not. (`leader_of`)
+    pub fn lead(&self) -> Leader
+        ensures { result ≡ leader_of (mirror_shows A.Sectors B.Sectors self.now) }
     {
-        self.lead_is_a
+        if !self.following.who.known {
+            return Leader::Unknown;
+        }
+        if self.lead_is_a {
+            return Leader::A;
+        }
+        Leader::B
     }
 
     /// Whether the side that does not lead is up.

@@ -10,13 +10,14 @@ ghost use Rattle.model_drive.specs.Parts.{IsInRange};
 ghost use Rattle.model_drive.specs.Reads.{ReadStep};
 ghost use Rattle.model_drive.specs.Shown.{Shown};
 ghost use Rattle.model_mirror.specs.Reads.{MirrorReadsPart, ReadsLed, after_lone_read};
-ghost use Rattle.model_mirror.specs.Shown.{MirrorShown, handed_over, led_by};
+ghost use Rattle.model_mirror.specs.Shown.{led_by};
 ghost use Rattle.model_mirror.specs.Standing.{IsFollowed, StandsSomehow};
 ghost use Rattle.ram_mirror.specs.Tables.{entries_of};
 ghost use Rattle.ram_mirror.specs.Sides.{shown_as, shown_by, ReadLed, ReadLedStep};
 ghost use Rattle.ram_mirror.specs.Reading.{ReadsSide, KeepsOthers, SideGives, InPlace, BytesCame, PartGives, LedGives, AllGives, OffGives};
 
 use crate::following::{Following, Led};
+use crate::taking::take_lead;
 use ram_bytes::SECTOR_BYTES;
 use ram_requests::{Part, Request};
 use ram_sectors::{Disc, ReadOut, Sectors};
@@ -232,8 +233,7 @@ pub(crate) fn read_on<L: Disc, O: Disc>(
     let out = read_led(lead, other, following, lba, n, into);
     match out {
         ReadOut::Cut | ReadOut::Fault => {
-            if !following.may_lead() {
-                following.turn_off();
+            if !take_lead(other, following) {
                 return Led::Kept(out);
             }
             Led::Given(read_alone(other, following, lba, n, into))
@@ -259,11 +259,9 @@ fn read_alone<O: Disc>(
     requires on { following.old.on ≡ true }
     ensures reads { ReadsDisc (O.shows lead.old) (O.shows lead.new) lba n result }
     ensures step { (s : Standing) → O.stands lead.old s → ReadStep (O.stands lead.new) s lba n into.new result }
-    ensures now { (side : Bool) (mid : MirrorShown) → mid.table ≡ entries_of following.old.table
-        → mid.lead_is_a ≡ side → shown_as (not side) (O.shows lead.new) mid.lead following.new
-        ≡ after_lone_read result (led_by (handed_over mid) (O.shows lead.new)) }
+    ensures now { (side : Bool) (other : Shown) → shown_as side (O.shows lead.new) other following.new
+        ≡ after_lone_read result (led_by (shown_as side (O.shows lead.old) other following.old) (O.shows lead.new)) }
 {
-    following.up = false;
     let out = lead.read(lba, n, into);
     if matches!(out, ReadOut::Cut | ReadOut::Fault) {
         following.turn_off();

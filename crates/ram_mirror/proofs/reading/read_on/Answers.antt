@@ -1,8 +1,7 @@
-use Rattle.std.proofs.Common.{not, inl, inr, refl, sym, ap, ◌∙◌}
+use Rattle.std.proofs.Common.{not, inl, inr, ap, subst}
 use Rattle.model_mirror.specs.Reads.{read_is_stopped}
-use Rattle.ram_mirror.specs.Tables.{entries_of}
-use Rattle.ram_mirror.specs.Sides.{shown_by}
-use Rattle.ram_mirror.proofs.Ends.{all_off}
+use Rattle.model_mirror.specs.Taking.{TakeStep}
+use Rattle.ram_mirror.specs.Sides.{shown_by, TakesAs}
 use Rattle.ram_mirror.proofs.ReadKept.{read_stops, kept_read, stopped_read, given_read}
 use Rattle.ram_mirror.proofs.reading.read_on.Goals as goal
 
@@ -36,35 +35,35 @@ returns-in-Off-clause-cause g c = λ side. inl (ap read_is_stopped c.in-Off.is, 
 pub returns-in-Off-clause-step : goal.returns-in-Off-clause-step
 returns-in-Off-clause-step g c = λ side. kept_read (shown_by g.L.Sectors g.O.Sectors side c.args.lead.now c.args.other.now c.args.following.now) (shown_by g.L.Sectors g.O.Sectors side c.read_led-out.new.lead c.read_led-out.new.other c.read_led-out.new.following) (g.L.Sectors.stands c.args.lead.now) (g.L.Sectors.stands c.read_led-out.new.lead) (g.O.Sectors.stands c.args.other.now) (g.O.Sectors.stands c.read_led-out.new.other) c.args.lba c.args.n c.read_led-out.new.into c.requires.on c.read_led-out.ensures.on c.read_led-out.result (c.read_led-out.ensures.gives side) c.read_led-out.ensures.off (ap read_is_stopped c.in-Off.is)
 
-pub returns-then-not-may_lead-clause-cause : goal.returns-then-not-may_lead-clause-cause
-returns-then-not-may_lead-clause-cause g c = λ side.
+pub returns-then-not-take_lead-clause-cause : goal.returns-then-not-take_lead-clause-cause
+returns-then-not-take_lead-clause-cause g c = λ side.
     inr (inr (record {
-      mid = shown_by g.L.Sectors g.O.Sectors side c.read_led-out.new.lead c.read_led-out.new.other c.read_led-out.new.following;
+      mid = (shown_by g.L.Sectors g.O.Sectors side c.read_led-out.new.lead c.read_led-out.new.other c.read_led-out.new.following);
       stopped = read_stops c.read_led-out.result c.in-Cut.is;
       led = c.read_led-out.ensures.cause side;
-      may_not = sym c.may_lead.ensures ∙ c.if-not-may_lead.true;
-      new_is = all_off (shown_by g.L.Sectors g.O.Sectors side c.read_led-out.new.lead c.read_led-out.new.other c.read_led-out.new.following) c.turn_off.new.self.on c.turn_off.new.self.up (entries_of c.turn_off.new.self.table) c.turn_off.ensures.on c.turn_off.ensures.up (ap entries_of c.turn_off.ensures.table);
+      takes = (subst (TakesAs side (g.L.Sectors.shows c.read_led-out.new.lead) (g.O.Sectors.shows c.read_led-out.new.other) c.read_led-out.new.following (g.O.Sectors.shows c.take_lead.new.other) c.take_lead.new.following) c.if-not-take_lead.true (c.take_lead.ensures.takes side (g.L.Sectors.shows c.read_led-out.new.lead)));
     }))
 
-pub returns-then-not-may_lead-clause-step : goal.returns-then-not-may_lead-clause-step
-returns-then-not-may_lead-clause-step g c = λ side.
+pub returns-then-not-take_lead-clause-step : goal.returns-then-not-take_lead-clause-step
+returns-then-not-take_lead-clause-step g c = λ side.
     stopped_read (shown_by g.L.Sectors g.O.Sectors side c.args.lead.now c.args.other.now c.args.following.now) (shown_by g.L.Sectors g.O.Sectors side c.read_led-out.new.lead c.read_led-out.new.other c.read_led-out.new.following) (g.L.Sectors.stands c.args.lead.now) (g.L.Sectors.stands c.read_led-out.new.lead) (g.O.Sectors.stands c.args.other.now) (g.O.Sectors.stands c.read_led-out.new.other) c.args.lba c.args.n c.read_led-out.new.into c.requires.on c.read_led-out.ensures.on c.read_led-out.result (c.read_led-out.ensures.gives side) c.read_led-out.ensures.off
-    (shown_by g.L.Sectors g.O.Sectors side c.read_led-out.new.lead c.read_led-out.new.other c.turn_off.new.self) (read_stops c.read_led-out.result c.in-Cut.is)
+    (shown_by g.L.Sectors g.O.Sectors side c.read_led-out.new.lead c.take_lead.new.other c.take_lead.new.following) (g.O.Sectors.stands c.take_lead.new.other) (subst (TakeStep (g.O.Sectors.stands c.read_led-out.new.other) (g.O.Sectors.stands c.take_lead.new.other)) c.if-not-take_lead.true c.take_lead.ensures.step) (read_stops c.read_led-out.result c.in-Cut.is)
 
-pub returns-else-not-may_lead-clause-cause : goal.returns-else-not-may_lead-clause-cause
-returns-else-not-may_lead-clause-cause g c = λ side.
+pub returns-else-not-take_lead-clause-cause : goal.returns-else-not-take_lead-clause-cause
+returns-else-not-take_lead-clause-cause g c = λ side.
     inr (inl (record {
-      mid = shown_by g.L.Sectors g.O.Sectors side c.read_led-out.new.lead c.read_led-out.new.other c.read_led-out.new.following;
+      mid = (shown_by g.L.Sectors g.O.Sectors side c.read_led-out.new.lead c.read_led-out.new.other c.read_led-out.new.following);
       lost = c.read_led-out.result;
       stopped = read_stops c.read_led-out.result c.in-Cut.is;
       led = c.read_led-out.ensures.cause side;
-      may = sym c.may_lead.ensures ∙ c.if-not-may_lead.false;
+      late = (shown_by g.O.Sectors g.L.Sectors (not side) c.take_lead.new.other c.read_led-out.new.lead c.take_lead.new.following);
+      takes = (subst (TakesAs side (g.L.Sectors.shows c.read_led-out.new.lead) (g.O.Sectors.shows c.read_led-out.new.other) c.read_led-out.new.following (g.O.Sectors.shows c.take_lead.new.other) c.take_lead.new.following) c.if-not-take_lead.false (c.take_lead.ensures.takes side (g.L.Sectors.shows c.read_led-out.new.lead)));
       reads = c.read_alone.ensures.reads;
-      new_is = c.read_alone.ensures.now side (shown_by g.L.Sectors g.O.Sectors side c.read_led-out.new.lead c.read_led-out.new.other c.read_led-out.new.following) refl refl;
+      new_is = c.read_alone.ensures.now (not side) (g.L.Sectors.shows c.read_led-out.new.lead);
     }))
 
-pub returns-else-not-may_lead-clause-step : goal.returns-else-not-may_lead-clause-step
-returns-else-not-may_lead-clause-step g c = λ side.
+pub returns-else-not-take_lead-clause-step : goal.returns-else-not-take_lead-clause-step
+returns-else-not-take_lead-clause-step g c = λ side.
     given_read (shown_by g.L.Sectors g.O.Sectors side c.args.lead.now c.args.other.now c.args.following.now) (shown_by g.L.Sectors g.O.Sectors side c.read_led-out.new.lead c.read_led-out.new.other c.read_led-out.new.following) (g.L.Sectors.stands c.args.lead.now) (g.L.Sectors.stands c.read_led-out.new.lead) (g.O.Sectors.stands c.args.other.now) (g.O.Sectors.stands c.read_led-out.new.other) c.args.lba c.args.n c.read_led-out.new.into c.requires.on c.read_led-out.ensures.on c.read_led-out.result (c.read_led-out.ensures.gives side) c.read_led-out.ensures.off
-    (shown_by g.O.Sectors g.L.Sectors (not side) c.read_alone.new.lead c.read_led-out.new.lead c.read_alone.new.following) c.read_alone.new.into c.read_alone.result (g.O.Sectors.stands c.read_alone.new.lead)
-    (read_stops c.read_led-out.result c.in-Cut.is) (sym c.may_lead.ensures ∙ c.if-not-may_lead.false) c.read_alone.ensures.step (c.read_alone.ensures.now side (shown_by g.L.Sectors g.O.Sectors side c.read_led-out.new.lead c.read_led-out.new.other c.read_led-out.new.following) refl refl)
+    (shown_by g.O.Sectors g.L.Sectors (not side) c.take_lead.new.other c.read_led-out.new.lead c.take_lead.new.following) (shown_by g.O.Sectors g.L.Sectors (not side) c.read_alone.new.lead c.read_led-out.new.lead c.read_alone.new.following) c.read_alone.new.into c.read_alone.result (g.O.Sectors.stands c.take_lead.new.other) (g.O.Sectors.stands c.read_alone.new.lead)
+    (read_stops c.read_led-out.result c.in-Cut.is) (subst (TakesAs side (g.L.Sectors.shows c.read_led-out.new.lead) (g.O.Sectors.shows c.read_led-out.new.other) c.read_led-out.new.following (g.O.Sectors.shows c.take_lead.new.other) c.take_lead.new.following) c.if-not-take_lead.false (c.take_lead.ensures.takes side (g.L.Sectors.shows c.read_led-out.new.lead))) (subst (TakeStep (g.O.Sectors.stands c.read_led-out.new.other) (g.O.Sectors.stands c.take_lead.new.other)) c.if-not-take_lead.false c.take_lead.ensures.step) c.read_alone.ensures.step (c.read_alone.ensures.now (not side) (g.L.Sectors.shows c.read_led-out.new.lead))

@@ -17,13 +17,13 @@ pub returns-in-Cut-clause-cause : goal.returns-in-Cut-clause-cause
 returns-in-Cut-clause-cause g c = λ side. passing_stopped (shown_by g.L.Sectors g.O.Sectors side c.args.lead.now c.args.other.now c.args.following.now) (shown_by g.L.Sectors g.O.Sectors side c.loop-block.lead c.loop-block.other c.loop-block.following) (shown_by g.L.Sectors g.O.Sectors side c.pass_block.new.lead c.pass_block.new.other c.pass_block.new.following) c.loop-block.block (g.L.Sectors.stands c.args.lead.now) (g.O.Sectors.stands c.args.other.now) (g.L.Sectors.stands c.loop-block.lead) (g.O.Sectors.stands c.loop-block.other) (g.L.Sectors.stands c.pass_block.new.lead) (g.O.Sectors.stands c.pass_block.new.other) (c.loop-block.invariant.passed side) (omega (arith, c.blocks_of-block-end.ensures.count, c.loop-block-test.true)) reads.Cut refl (c.in-Cut.ensures.cause side)
 
 pub returns-in-Cut-clause-step : goal.returns-in-Cut-clause-step
-returns-in-Cut-clause-step g c = λ side. passing_step (shown_by g.L.Sectors g.O.Sectors side c.args.lead.now c.args.other.now c.args.following.now) (shown_by g.L.Sectors g.O.Sectors side c.loop-block.lead c.loop-block.other c.loop-block.following) (shown_by g.L.Sectors g.O.Sectors side c.pass_block.new.lead c.pass_block.new.other c.pass_block.new.following) c.loop-block.block (g.L.Sectors.stands c.args.lead.now) (g.O.Sectors.stands c.args.other.now) (g.L.Sectors.stands c.loop-block.lead) (g.O.Sectors.stands c.loop-block.other) (g.L.Sectors.stands c.pass_block.new.lead) (g.O.Sectors.stands c.pass_block.new.other) (c.loop-block.invariant.passed side) (omega (arith, c.blocks_of-block-end.ensures.count, c.loop-block-test.true)) c.requires.disc.0 (λ discs so is_on. ((g.met.L.Sectors.laws.as_shown c.args.lead.now (Off discs)).0 so).1 is_on) reads.Cut (c.in-Cut.ensures.step side)
+returns-in-Cut-clause-step g c = λ side. passing_step (shown_by g.L.Sectors g.O.Sectors side c.args.lead.now c.args.other.now c.args.following.now) (shown_by g.L.Sectors g.O.Sectors side c.loop-block.lead c.loop-block.other c.loop-block.following) (shown_by g.L.Sectors g.O.Sectors side c.pass_block.new.lead c.pass_block.new.other c.pass_block.new.following) c.loop-block.block (g.L.Sectors.stands c.args.lead.now) (g.O.Sectors.stands c.args.other.now) (g.L.Sectors.stands c.loop-block.lead) (g.O.Sectors.stands c.loop-block.other) (g.L.Sectors.stands c.pass_block.new.lead) (g.O.Sectors.stands c.pass_block.new.other) (c.loop-block.invariant.passed side) (omega (arith, c.blocks_of-block-end.ensures.count, c.loop-block-test.true)) c.requires.on c.requires.disc.0 (λ discs so is_on. ((g.met.L.Sectors.laws.as_shown c.args.lead.now (Off discs)).0 so).1 is_on) reads.Cut (c.in-Cut.ensures.step side)
 
 pub returns-in-Fault-clause-cause : goal.returns-in-Fault-clause-cause
 returns-in-Fault-clause-cause g c = λ side. passing_stopped (shown_by g.L.Sectors g.O.Sectors side c.args.lead.now c.args.other.now c.args.following.now) (shown_by g.L.Sectors g.O.Sectors side c.loop-block.lead c.loop-block.other c.loop-block.following) (shown_by g.L.Sectors g.O.Sectors side c.pass_block.new.lead c.pass_block.new.other c.pass_block.new.following) c.loop-block.block (g.L.Sectors.stands c.args.lead.now) (g.O.Sectors.stands c.args.other.now) (g.L.Sectors.stands c.loop-block.lead) (g.O.Sectors.stands c.loop-block.other) (g.L.Sectors.stands c.pass_block.new.lead) (g.O.Sectors.stands c.pass_block.new.other) (c.loop-block.invariant.passed side) (omega (arith, c.blocks_of-block-end.ensures.count, c.loop-block-test.true)) reads.Fault refl (c.in-Fault.ensures.cause side)
 
 pub returns-in-Fault-clause-step : goal.returns-in-Fault-clause-step
-returns-in-Fault-clause-step g c = λ side. passing_step (shown_by g.L.Sectors g.O.Sectors side c.args.lead.now c.args.other.now c.args.following.now) (shown_by g.L.Sectors g.O.Sectors side c.loop-block.lead c.loop-block.other c.loop-block.following) (shown_by g.L.Sectors g.O.Sectors side c.pass_block.new.lead c.pass_block.new.other c.pass_block.new.following) c.loop-block.block (g.L.Sectors.stands c.args.lead.now) (g.O.Sectors.stands c.args.other.now) (g.L.Sectors.stands c.loop-block.lead) (g.O.Sectors.stands c.loop-block.other) (g.L.Sectors.stands c.pass_block.new.lead) (g.O.Sectors.stands c.pass_block.new.other) (c.loop-block.invariant.passed side) (omega (arith, c.blocks_of-block-end.ensures.count, c.loop-block-test.true)) c.requires.disc.0 (λ discs so is_on. ((g.met.L.Sectors.laws.as_shown c.args.lead.now (Off discs)).0 so).1 is_on) reads.Fault (c.in-Fault.ensures.step side)
+returns-in-Fault-clause-step g c = λ side. passing_step (shown_by g.L.Sectors g.O.Sectors side c.args.lead.now c.args.other.now c.args.following.now) (shown_by g.L.Sectors g.O.Sectors side c.loop-block.lead c.loop-block.other c.loop-block.following) (shown_by g.L.Sectors g.O.Sectors side c.pass_block.new.lead c.pass_block.new.other c.pass_block.new.following) c.loop-block.block (g.L.Sectors.stands c.args.lead.now) (g.O.Sectors.stands c.args.other.now) (g.L.Sectors.stands c.loop-block.lead) (g.O.Sectors.stands c.loop-block.other) (g.L.Sectors.stands c.pass_block.new.lead) (g.O.Sectors.stands c.pass_block.new.other) (c.loop-block.invariant.passed side) (omega (arith, c.blocks_of-block-end.ensures.count, c.loop-block-test.true)) c.requires.on c.requires.disc.0 (λ discs so is_on. ((g.met.L.Sectors.laws.as_shown c.args.lead.now (Off discs)).0 so).1 is_on) reads.Fault (c.in-Fault.ensures.step side)
 
 pub loop-block-preserved : goal.loop-block-preserved
 loop-block-preserved g c = record {
@@ -35,4 +35,4 @@ pub returns-clause-cause : goal.returns-clause-cause
 returns-clause-cause g c = λ side. all_passed (shown_by g.L.Sectors g.O.Sectors side c.args.lead.now c.args.other.now c.args.following.now) (shown_by g.L.Sectors g.O.Sectors side c.loop-block.lead c.loop-block.other c.loop-block.following) c.loop-block.block (g.L.Sectors.stands c.args.lead.now) (g.O.Sectors.stands c.args.other.now) (g.L.Sectors.stands c.loop-block.lead) (g.O.Sectors.stands c.loop-block.other) (c.loop-block.invariant.passed side) (omega (arith, c.blocks_of-block-end.ensures.count, c.loop-block-test.false, c.loop-block.auto.block-end))
 
 pub returns-clause-step : goal.returns-clause-step
-returns-clause-step g c = λ side. all_stand (shown_by g.L.Sectors g.O.Sectors side c.args.lead.now c.args.other.now c.args.following.now) (shown_by g.L.Sectors g.O.Sectors side c.loop-block.lead c.loop-block.other c.loop-block.following) c.loop-block.block (g.L.Sectors.stands c.args.lead.now) (g.O.Sectors.stands c.args.other.now) (g.L.Sectors.stands c.loop-block.lead) (g.O.Sectors.stands c.loop-block.other) (c.loop-block.invariant.passed side) c.requires.disc.0 (λ discs so is_on. ((g.met.L.Sectors.laws.as_shown c.args.lead.now (Off discs)).0 so).1 is_on)
+returns-clause-step g c = λ side. all_stand (shown_by g.L.Sectors g.O.Sectors side c.args.lead.now c.args.other.now c.args.following.now) (shown_by g.L.Sectors g.O.Sectors side c.loop-block.lead c.loop-block.other c.loop-block.following) c.loop-block.block (g.L.Sectors.stands c.args.lead.now) (g.O.Sectors.stands c.args.other.now) (g.L.Sectors.stands c.loop-block.lead) (g.O.Sectors.stands c.loop-block.other) (c.loop-block.invariant.passed side) c.requires.on c.requires.disc.0 (λ discs so is_on. ((g.met.L.Sectors.laws.as_shown c.args.lead.now (Off discs)).0 so).1 is_on)
