@@ -13,16 +13,16 @@ use ram_text::Dialogue;
 /// What answers the lines of a script.
 pub trait Answers {
     /// What a line is answered.
-    type Reply: Drop;
+    type Told: Drop;
 
     /// What a line does: what answers it before, the line, the outcome, and what answers lines then.
-    ghost answered: { Self → List ℕ → Result Self.Reply WhyStopped → Self → Type 0 };
+    ghost answered: { Self → List ℕ → Result Self.Told WhyStopped → Self → Type 0 };
 
     /// The text of a reply to the line of this number, where this answered it.
-    ghost text: { Self → ℕ → Self.Reply → List ℕ };
+    ghost text: { Self → ℕ → Self.Told → List ℕ };
 
     /// Whether a reply is an answer; a comment has none.
-    ghost is_answer: { Self.Reply → Bool };
+    ghost is_answer: { Self.Told → Bool };
 
     /// How often the images have failed.
     ghost faults: { Self → ℕ };
@@ -36,7 +36,7 @@ pub trait Answers {
     /// - `NotInLanguage`, `NotADisc`: the line is none of the language, or needs a disc. Then: nothing failed. (`LineStops`)
     /// - `ImageFault`: an image counted a failure. (`LineStops`)
     /// - `LineTooLong`, `ScriptTooLong`, `SourceFault`, `SinkFault`: never. (`LineStops`)
-    fn answer(&mut self, raw: &[u8]) -> Result<Self::Reply, Stopped>
+    fn answer(&mut self, raw: &[u8]) -> Result<Self::Told, Stopped>
         requires short { length raw.now ≤ LINE_LIMIT }
         ensures answered { answered self.old raw.now result self.new }
         ensures count { LineStops (faults self.old) (faults self.new) result };
@@ -46,7 +46,7 @@ pub trait Answers {
     /// # Answers
     ///
     /// - `true`, `false`: whether it is one. (clause)
-    fn has_answer(reply: &Self::Reply) -> bool
+    fn has_answer(reply: &Self::Told) -> bool
         ensures { result ≡ is_answer reply.now };
 
     /// Prints a reply, with the number of its line.
@@ -57,7 +57,7 @@ pub trait Answers {
     fn print<T: Conversation>(
         &self,
         number: u64,
-        reply: &Self::Reply,
+        reply: &Self::Told,
         dialogue: &mut Dialogue<T>,
     ) -> Print
         ensures { Tells T.Conversation T.Sink.Sink dialogue.old dialogue.new (text self.now number reply.now) result };
