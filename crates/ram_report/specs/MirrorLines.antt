@@ -6,9 +6,9 @@ use Rattle.ram_report.specs.declared.printing.MirrorEvent.{MirrorEvent}
 use Rattle.ram_report.specs.declared.printing.MirrorEvent.TheVariants as events
 
 -- the word for a side
-abbrev pub led_by : (on_a : Bool) → List ℕ
-led_by true = codes "a"
-led_by false = codes "b"
+abbrev pub side_word : (on_a : Bool) → List ℕ
+side_word true = codes "a"
+side_word false = codes "b"
 
 -- the words of an answer
 abbrev pub mirror_words : MirrorEvent → List ℕ
@@ -21,7 +21,7 @@ mirror_words (events.NoUpdate counter) = codes "no update " ++ decimal counter
 mirror_words (events.Range capacity) = codes "range " ++ decimal capacity
 mirror_words (events.TooMany count) = codes "too many " ++ decimal count
 mirror_words (events.Left count) = codes "left " ++ decimal count
-mirror_words (events.Leads on_a) = led_by on_a
+mirror_words (events.Leads on_a) = side_word on_a
 mirror_words events.Unknown = codes "unknown"
 
 -- the lines behind an answer: the sectors that were read

@@ -4,11 +4,12 @@ use Rattle.std.specs.Option.{ok_or}
 use Rattle.std.specs.Result.{MatchResult}
 use Rattle.std.specs.Str.{bytes_eq}
 use Rattle.std.proofs.lemmas.Bool.Decides.{nat_tests}
+use Rattle.ram_report.specs.MirrorLines.{side_word}
 use Rattle.ram_text.specs.ScriptWords.{without_return, IsNumber}
 use Rattle.ram_text.specs.Script.{IsForm}
 use Rattle.ram_text.specs.ScriptReading.{◌>>=◌, only_word, first_number, only_number, press_of, payload_of, alone, Puts}
 use Rattle.ram_text.specs.Faults.{IsFault, fault_of}
-use Rattle.ram_text.specs.MirrorScript.{side_word, IsCount, AreWritten, IsMirrorForm, MirrorReads}
+use Rattle.ram_text.specs.MirrorScript.{IsCount, AreWritten, IsMirrorForm, MirrorReads}
 use Rattle.ram_text.specs.MirrorReading.{side_of, mirror_form_of, for_both, on_side, single, is_count, read_of, written_of, write_of, lead_of, mirror_line_by, mirror_line_of, mirror_reading_of}
 use Rattle.ram_text.specs.declared.script.Unread.{Unread}
 use Rattle.ram_text.specs.declared.script.Line.{Line}

@@ -1,16 +1,12 @@
 -- What a line of a script for a mirror of two discs reads as, with its data: for the parser, and for the run that answers lines.
 -- (This project's own, as all here.)
-use Rattle.std.specs.Prelude.{◌≡◌, ℕ, ◌*◌, ◌<◌, ◌≤◌, Bool, true, false, List, [], ◌∷◌, length, codes}
+use Rattle.std.specs.Prelude.{◌≡◌, ℕ, ◌*◌, ◌<◌, ◌≤◌, List, [], ◌∷◌, length, codes}
+use Rattle.ram_report.specs.MirrorLines.{side_word}
 use Rattle.ram_text.specs.ScriptWords.{IsNumber}
 use Rattle.ram_text.specs.Script.{IsForm, AreNamed, ReadsBy}
 use Rattle.ram_text.specs.declared.script.Line.TheVariants as lines
 use Rattle.ram_text.specs.declared.mirror.MirrorLine.{MirrorLine}
 use Rattle.ram_text.specs.declared.mirror.MirrorLine.TheVariants.{Empty, Press, Power, Format, Read, Write, Resync, Lead, GiveLead, Fail, Wear, Cut}
-
--- the word for a side: the first image's or the second's
-abbrev pub side_word : (on_a : Bool) → List ℕ
-side_word true = codes "a"
-side_word false = codes "b"
 
 -- how many sectors a read or a write has: 1 to 1,024
 pub record IsCount (word : List ℕ) (n : ℕ) : Type 0 where
