@@ -85,15 +85,13 @@ class Side:
     def read_record(self) -> None:
         number = self.tries(self.record.read)
         assert number is None or isinstance(number, int)
-        self.number = number
-        if number is not None:
-            self.most = max(self.most or 0, number)
+        self.number, self.most = number, number or 0
 
     def write_record(self, number: int) -> bool:
         """Whether it is written: a copy can be read."""
-        self.most = max(self.most or 0, number)
+        self.most = number
         written = self.tries(lambda: self.record.write(number)) is True
-        self.number = number if written else None
+        self.number, self.most = (number, number) if written else (None, 0)
         return written
 
     @property

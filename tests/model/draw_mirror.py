@@ -1,0 +1,78 @@
+"""Draws scripts for a mirror: calls, failures and cuts on either side."""
+from __future__ import annotations
+
+from random import Random
+from typing import List
+
+from .medium import Geometry
+from .mirror import SECTORS_IN_BLOCK, Record
+from .drive import Drive
+from .medium import Medium
+
+FATES = ("old", "new", "torn")
+
+
+class MirrorScript:
+    """Draws lines for two discs of this geometry."""
+
+    def __init__(self, random: Random, geometry: Geometry) -> None:
+        self.random = random
+        self.geometry = geometry
+        records = Record(Drive(Medium(bytearray(geometry.blank()), geometry))).blocks
+        self.blocks = [*records, *geometry.list_blocks, *geometry.data_blocks[:12]]
+
+    def draw(self, pressed: bool) -> bytes:
+        """A script: the discs are made first, unless they are there."""
+        geometry = self.geometry
+        begin = [] if pressed else [f"press {geometry.zones} {geometry.scale} {geometry.spares}", "power", "format"]
+        lines = begin + ["power"] * (self.random.random() < 0.8)
+        lines += [self.line() for _ in range(self.random.randint(4, 24))]
+        return "".join(f"{line}\n" for line in lines).encode("ascii")
+
+    def line(self) -> str:
+        kinds = {self.power: 20, self.write: 26, self.read: 20, self.resync: 7, self.format: 3, self.lead: 4,
+                 self.give: 1, self.cut: 14, self.fail: 7, self.wear: 2, self.strange: 1}
+        return self.random.choices(list(kinds), list(kinds.values()))[0]()
+
+    def side(self) -> str:
+        return self.random.choice("ab")
+
+    def request(self) -> str:
+        first = self.random.choice([0, 0, 0, 5, SECTORS_IN_BLOCK, 2 * SECTORS_IN_BLOCK, self.random.randrange(400)])
+        return f"{first} {self.random.choice([1, 3, SECTORS_IN_BLOCK, 2 * SECTORS_IN_BLOCK, 40])}"
+
+    def power(self) -> str:
+        return "power"
+
+    def resync(self) -> str:
+        return "resync"
+
+    def format(self) -> str:
+        return "format"
+
+    def lead(self) -> str:
+        return "lead"
+
+    def give(self) -> str:
+        return f"lead {self.side()}"
+
+    def read(self) -> str:
+        return f"read {self.request()}"
+
+    def write(self) -> str:
+        return f"write {self.request()} {self.random.choice(['fill', 'count'])} {self.random.randrange(256):02x}"
+
+    def cut(self) -> str:
+        uses = self.random.choice([1, 1, 2, 3, 5, 8, self.random.randint(9, 45)])
+        return f"{self.side()} cut {uses} {self.random.choice(FATES)}"
+
+    def fail(self) -> str:
+        return f"{self.side()} fail {self.random.choice(self.blocks)}"
+
+    def wear(self) -> str:
+        return f"{self.side()} wear {self.random.choice(self.blocks)} {self.random.randint(1, 4)}"
+
+    def strange(self) -> str:
+        """A line that says nothing, or refuses."""
+        lines: List[str] = ["", "# a comment", "press 0 1 4", "a fail 99999", f"read {2 ** 32 - 1} 2"]
+        return self.random.choice(lines)
