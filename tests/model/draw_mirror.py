@@ -4,10 +4,10 @@ from __future__ import annotations
 from random import Random
 from typing import List
 
-from .medium import Geometry
-from .mirror import SECTORS_IN_BLOCK, Record
 from .drive import Drive
-from .medium import Medium
+from .lists import SECTORS_IN_BLOCK
+from .medium import Geometry, Medium
+from .mirror import Record
 
 FATES = ("old", "new", "torn")
 
@@ -24,7 +24,8 @@ class MirrorScript:
     def draw(self, pressed: bool) -> bytes:
         """A script: the discs are made first, unless they are there."""
         geometry = self.geometry
-        begin = [] if pressed else [f"press {geometry.zones} {geometry.scale} {geometry.spares}", "power", "format"]
+        press = f"press {geometry.zones} {geometry.scale} {geometry.spares}"
+        begin = [] if pressed else [press, "power", "format"]
         lines = begin + ["power"] * (self.random.random() < 0.8)
         lines += [self.line() for _ in range(self.random.randint(4, 24))]
         return "".join(f"{line}\n" for line in lines).encode("ascii")
@@ -38,7 +39,8 @@ class MirrorScript:
         return self.random.choice("ab")
 
     def request(self) -> str:
-        first = self.random.choice([0, 0, 0, 5, SECTORS_IN_BLOCK, 2 * SECTORS_IN_BLOCK, self.random.randrange(400)])
+        anywhere = self.random.randrange(400)
+        first = self.random.choice([0, 0, 0, 5, SECTORS_IN_BLOCK, 2 * SECTORS_IN_BLOCK, anywhere])
         return f"{first} {self.random.choice([1, 3, SECTORS_IN_BLOCK, 2 * SECTORS_IN_BLOCK, 40])}"
 
     def power(self) -> str:
@@ -60,7 +62,8 @@ class MirrorScript:
         return f"read {self.request()}"
 
     def write(self) -> str:
-        return f"write {self.request()} {self.random.choice(['fill', 'count'])} {self.random.randrange(256):02x}"
+        kind = self.random.choice(["fill", "count"])
+        return f"write {self.request()} {kind} {self.random.randrange(256):02x}"
 
     def cut(self) -> str:
         uses = self.random.choice([1, 1, 2, 3, 5, 8, self.random.randint(9, 45)])

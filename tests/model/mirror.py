@@ -1,16 +1,16 @@
-"""A mirror of two discs, made from docs/MIRROR.md alone: which side leads, what it knows of the other, and the
-lines of its script."""
+"""A mirror of two discs, made from docs/MIRROR.md alone: which side leads, what it knows of the other, and
+the lines of its script."""
 from __future__ import annotations
 
 import re
 from dataclasses import dataclass, field
 from typing import Callable, List, NamedTuple, Optional, Set, Tuple
 
-from .drive import LAST_COUNTER, Check, Drive, TooMany
+from .drive import Check, Drive, TooMany
+from .lists import LAST_COUNTER, SECTORS_IN_BLOCK
 from .medium import BLOCK, MOST_WEARS, SECTOR, Cut, Fate, Geometry, LayoutKind, Medium, PowerCut, State, Wear
 from .script import LARGEST_NUMBER, End, Status, lines_of, sector_line
 
-SECTORS_IN_BLOCK = 16
 MOST_SECTORS = 1_024
 SIGNATURE = b"\x4c\x45\x01"
 NUMBER_AT = slice(4, 8)
@@ -106,6 +106,14 @@ class Refused(Exception):
         super().__init__()
         self.words, self.sector = words, sector
 
+    def is_behind(self, block: int) -> bool:
+        """Whether this block comes before the one that was refused, or all of them may be concerned."""
+        return self.sector is None or block < self.sector // SECTORS_IN_BLOCK
+
+    def is_from(self, block: int) -> bool:
+        """Whether this block is the one that was refused or comes after it, or all may be concerned."""
+        return self.sector is None or block >= self.sector // SECTORS_IN_BLOCK
+
 
 def refusal(check: Check) -> Refused:
     """What a mirror calls the refusal of a read or a write of a side."""
@@ -175,7 +183,7 @@ class Mirror:
         return self.lead_is
 
     def raise_numbers(self, ready: List[bool]) -> Optional[str]:
-        """Makes the lead's number greater than any that the other side may have: why it cannot, if it cannot."""
+        """Makes the lead's number greater than any that the other may have: why it cannot, if it cannot."""
         assert self.lead_is is not None
         lead, other = self.lead, self.other
         is_lost = ready[1 - self.lead_is] and other.number is None
@@ -193,9 +201,10 @@ class Mirror:
         return self.number_new_disc()
 
     def number_new_disc(self) -> Optional[str]:
-        """Gives the other side the number 1, where it has none yet: why the mirror is not on, if it is not."""
+        """Gives the other side the number 1, where it has none: why the mirror is not on, if it is not."""
         try:
-            if self.other.drive.on and self.other.number == 0 and not self.other.write_record(1) and not self.by_hand:
+            is_new = self.other.drive.on and self.other.number == 0
+            if is_new and not self.other.write_record(1) and not self.by_hand:
                 return "unknown"
         except Stopped:
             pass
@@ -308,7 +317,7 @@ class Mirror:
         try:
             self.write_side(self.lead, first, data)
         except Refused as refused:
-            self.apart.update(block for block in covered if refused.sector is None or block < refused.sector // 16)
+            self.apart.update(block for block in covered if refused.is_behind(block))
             raise
         except Stopped:
             if not self.hand_over():
@@ -324,7 +333,7 @@ class Mirror:
         except Refused as refused:
             end = first + len(data) // SECTOR
             self.apart.update(block for block in range(first // 16, (end - 1) // 16 + 1)
-                              if refused.sector is None or block < refused.sector // 16)
+                              if refused.is_behind(block))
             raise
         except Stopped:
             self.turn_off()
@@ -336,7 +345,7 @@ class Mirror:
         try:
             self.write_side(self.other, first, data)
         except Refused as refused:
-            self.apart.update(block for block in covered if refused.sector is None or block >= refused.sector // 16)
+            self.apart.update(block for block in covered if refused.is_from(block))
             return
         except Stopped:
             self.up = False
@@ -421,7 +430,8 @@ WORDS = {"NUMBER": "([0-9]{1,10})", "HEX": "((?:[0-9a-fA-F]{2})+)", "XX": "([0-9
 FORMS = ("(press) NUMBER NUMBER NUMBER", "(power)", "(format)", "(resync)", "(lead)", "(lead) (a|b)",
          "(read) NUMBER NUMBER", "(write) NUMBER NUMBER (fill|count) XX", "(write) NUMBER NUMBER (hex) HEX",
          "(a|b) (fail) NUMBER", "(a|b) (wear) NUMBER NUMBER", "(a|b) (cut) NUMBER (old|new|torn)")
-PATTERNS = [re.compile(re.sub("NUMBER|HEX|XX", lambda word: WORDS[str(word.group())], form)) for form in FORMS]
+PATTERNS = [re.compile(re.sub("NUMBER|HEX|XX", lambda word: WORDS[str(word.group())], form))
+            for form in FORMS]
 
 
 class Line(NamedTuple):
@@ -481,7 +491,8 @@ class Pair:
     def answer(self, line: Line) -> List[str]:
         """Does what a line says: its answer, and the lines after it."""
         if line.name == "press":
-            return [self.press(Geometry(*line.numbers))]
+            zones, scale, spares = line.numbers
+            return [self.press(Geometry(zones, scale, spares))]
         if self.mirror is None:
             raise End(Status.NOT_A_DISC, "not a disc")
         if line.name in ("fail", "wear", "cut"):
@@ -505,7 +516,8 @@ class Pair:
         if line.name == "read":
             first, count = line.numbers
             data = mirror.read(first, count)
-            return ["good"] + [sector_line(first + at, data[SECTOR * at:SECTOR * (at + 1)]) for at in range(count)]
+            return ["good"] + [sector_line(first + at, data[SECTOR * at:SECTOR * (at + 1)])
+                               for at in range(count)]
         if line.name == "write":
             mirror.write(line.numbers[0], line.data)
             return ["good"]

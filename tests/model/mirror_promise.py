@@ -1,9 +1,9 @@
 """What a mirror promises over several runs, by scripts and reports alone: each sector is a register.
 
-A sector that was written good has those bytes, and one whose write was stopped or refused may have them. A good
-read shows a value that the sector may have, and from then on it has that one. So no older bytes come back,
-whatever the order of the images and wherever the power was cut. A `press` makes new discs, and a lead that is
-given by hand is trusted: after both nothing is known.
+A sector that was written good has those bytes, and one whose write was stopped or refused may have them. A
+good read shows a value that the sector may have, and from then on it has that one. So no older bytes come
+back, whatever the order of the images and wherever the power was cut. A `press` makes new discs, and a lead
+that is given by hand is trusted: after both nothing is known.
 """
 from __future__ import annotations
 
