@@ -16,3 +16,4 @@ mod TurnedBack
 mod Woken
 mod Started
 mod Powered
+mod Events

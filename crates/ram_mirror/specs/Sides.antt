@@ -47,6 +47,11 @@ module _ {L O : Type 0} (l : Drives L) (o : Drives O) where
   stands_by lead_is_a lead other following s =
       MirrorStands (shown_by lead_is_a lead other following) (l.stands lead) (o.stands other) s
 
+  -- Nothing but events happened to the media of both sides; which of them leads does not matter.
+  pub record SidesUnderwent (x : L) (y : O) (x' : L) (y' : O) : Type 0 where
+    pub first : l.underwent x x'
+    pub second : o.underwent y y'
+
 -- How a call ended, that its lead has kept, or given to the other side.
 module _ {L O : Type 0} (l : Drives L) (o : Drives O) where
   -- a write, and its cause

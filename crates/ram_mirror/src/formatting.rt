@@ -8,7 +8,7 @@ ghost use Rattle.model_drive.specs.Formats.{FormatStep};
 ghost use Rattle.model_drive.specs.Shown.{block_count};
 ghost use Rattle.model_drive.specs.Tells.{HasDisc};
 ghost use Rattle.model_mirror.specs.Whole.{FormatsOn, up_after_format};
-ghost use Rattle.ram_mirror.specs.Sides.{shown_by, stands_by};
+ghost use Rattle.ram_mirror.specs.Sides.{shown_by, stands_by, SidesUnderwent};
 
 use crate::following::Following;
 use crate::power::blocks_of;
@@ -42,6 +42,7 @@ pub(crate) fn format_on<L: Disc, O: Disc>(
     ensures step { (side : Bool) (s : Standing) → stands_by L.Sectors O.Sectors side lead.old other.old following.old s
         → FormatStep (L.shows lead.old) (L.shows lead.new)
         (stands_by L.Sectors O.Sectors side lead.new other.new following.new) s (kinds.Full true) result }
+    ensures underwent { SidesUnderwent L.Sectors O.Sectors lead.old other.old lead.new other.new }
 {
     let out = lead.format(Kind::Full { drop_sdl: true });
     match out {

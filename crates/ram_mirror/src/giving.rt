@@ -28,6 +28,7 @@ pub(crate) fn give_to<D: Disc>(side: &mut D, following: &mut Following) -> GiveO
     ensures cause { (is_a : Bool) (other : Shown) → GivesNamed (shown_as is_a (D.shows side.old) other following.old)
         (shown_as is_a (D.shows side.new) other following.new) result }
     ensures step { (s : Standing) → D.stands side.old s → GiveStep (D.stands side.new) s result }
+    ensures underwent { D.underwent side.old side.new }
 {
     if !side.counts().powered {
         return GiveOut::Off;
@@ -55,6 +56,7 @@ pub(crate) fn give_over<D: Disc>(side: &mut D, following: &mut Following) -> Giv
     ensures cause { (is_a : Bool) (lead : Shown) → GivesOver is_a lead (D.shows side.old) following.old
         (D.shows side.new) following.new result }
     ensures step { (s : Standing) → D.stands side.old s → GiveStep (D.stands side.new) s result }
+    ensures underwent { D.underwent side.old side.new }
 {
     following.who.exchange();
     let out = give_to(side, following);

@@ -14,13 +14,14 @@
 //!   does not lead again, in any run and in either order of the sides. Where that cannot be told the answer is `Unknown`, and
 //!   `give_lead` tells it by hand.
 //!
+//! Nothing but events happens to the media of its sides, whatever a call answers (`underwent`).
+//!
 //! All memory is taken by `MirrorRooms::new`, out of a budget: a table for the blocks of any disc, one block, and three records,
 //! 186,586 bytes (`MIRROR_MEMORY`).
 //!
 //! # What is neither
 //!
 //! - That the side to which the lead is given by hand has the newer bytes, or that the two sides are of one pair.
-//! - That the uses of both sides are events alone (`underwent`), which a machine over a mirror would ask.
 #![tactic(auto)]
 
 mod copying;

@@ -80,6 +80,7 @@ pub struct Mirror<A: Disc, B: Disc> {
 }
 
 impl<A: Disc, B: Disc> Mirror<A, B> {
+    ghost use Rattle.ram_mirror.specs.Sides.{SidesUnderwent};
     ghost use Rattle.ram_mirror.specs.Mirrors.{IsNew, mirror_shows, mirror_stands};
 
     /// A mirror of these sides, which is off. It is not known who leads.
@@ -140,6 +141,7 @@ impl<A: Disc, B: Disc> Mirror<A, B> {
     ///
     /// - `cause`, `step`: `MirrorReadCause`: the reads of its sides that it made; of the disc that it stands for, `ReadStep`, as
     ///   a read of one disc.
+    /// - `underwent`: `SidesUnderwent`: nothing but events happened to the media of both sides, whatever the answer.
     ///
     /// # Answers
     ///
@@ -160,6 +162,7 @@ impl<A: Disc, B: Disc> Mirror<A, B> {
             (mirror_shows A.Sectors B.Sectors self.new) lba n result }
         ensures step { (s : Standing) → mirror_stands A.Sectors B.Sectors self.old s
             → ReadStep (mirror_stands A.Sectors B.Sectors self.new) s lba n into.new result }
+        ensures underwent { SidesUnderwent A.Sectors B.Sectors self.old.a self.old.b self.new.a self.new.b }
     {
         if !self.following.on {
             return ReadOut::Off;
@@ -189,6 +192,7 @@ impl<A: Disc, B: Disc> Mirror<A, B> {
     /// # Clauses
     ///
     /// - `cause`, `step`: `MirrorWriteCause`, with the marks of the table; `WriteStep`.
+    /// - `underwent`: as of a read.
     ///
     /// # Answers
     ///
@@ -210,6 +214,7 @@ impl<A: Disc, B: Disc> Mirror<A, B> {
         ensures step { (s : Standing) → mirror_stands A.Sectors B.Sectors self.old s
             → WriteStep (mirror_shows A.Sectors B.Sectors self.new).lead (mirror_stands A.Sectors B.Sectors self.new) s
             lba n from.now result }
+        ensures underwent { SidesUnderwent A.Sectors B.Sectors self.old.a self.old.b self.new.a self.new.b }
     {
         if !self.following.on {
             return WriteOut::Off;
@@ -242,6 +247,7 @@ impl<A: Disc, B: Disc> Mirror<A, B> {
     ///
     /// - `cause`, `step`: `MirrorPowerCause`: both sides wake, and one of them starts; `MirrorPowerStep`, from what both sides stood
     ///   for.
+    /// - `underwent`: as of a read.
     ///
     /// # Answers
     ///
@@ -258,6 +264,7 @@ impl<A: Disc, B: Disc> Mirror<A, B> {
         ensures step { (s t : Standing) → A.stands self.old.a s → B.stands self.old.b t
             → MirrorPowerStep (mirror_shows A.Sectors B.Sectors self.new) (mirror_stands A.Sectors B.Sectors self.new)
             (A.stands self.new.a) (B.stands self.new.b) s t result }
+        ensures underwent { SidesUnderwent A.Sectors B.Sectors self.old.a self.old.b self.new.a self.new.b }
     {
         let room = &mut self.looked_at;
         if self.lead_is_a {
@@ -285,6 +292,7 @@ impl<A: Disc, B: Disc> Mirror<A, B> {
     /// # Clauses
     ///
     /// - `cause`, `step_a`, `step_b`: `GiveLeadCause`; `GiveStep` of the side that is meant, and the other one is as before.
+    /// - `underwent`: as of a read.
     ///
     /// # Answers
     ///
@@ -299,6 +307,7 @@ impl<A: Disc, B: Disc> Mirror<A, B> {
         ensures step_a { (s : Standing) → A.stands self.old.a s → GiveStepOf to_a (A.stands self.new.a) s result }
         ensures step_b { (s : Standing) → B.stands self.old.b s
             → GiveStepOf (not to_a) (B.stands self.new.b) s result }
+        ensures underwent { SidesUnderwent A.Sectors B.Sectors self.old.a self.old.b self.new.a self.new.b }
     {
         if to_a {
             if self.lead_is_a {
@@ -322,6 +331,7 @@ impl<A: Disc, B: Disc> Mirror<A, B> {
     /// # Clauses
     ///
     /// - `cause`, `step`: `MirrorFormatCause`: the other side is formatted after a good format of the lead alone; `FormatStep`.
+    /// - `underwent`: as of a read.
     ///
     /// # Answers
     ///
@@ -337,6 +347,7 @@ impl<A: Disc, B: Disc> Mirror<A, B> {
             → FormatStep (mirror_shows A.Sectors B.Sectors self.old).lead
             (mirror_shows A.Sectors B.Sectors self.new).lead
             (mirror_stands A.Sectors B.Sectors self.new) s (kinds.Full true) result }
+        ensures underwent { SidesUnderwent A.Sectors B.Sectors self.old.a self.old.b self.new.a self.new.b }
     {
         if !self.following.on {
             return FormatOut::Off;
@@ -354,6 +365,7 @@ impl<A: Disc, B: Disc> Mirror<A, B> {
     ///
     /// - `cause`, `step`: `ResyncCause`: each block that is apart was copied in turn, while the other side was up, and how many
     ///   are left; `ResyncStep`.
+    /// - `underwent`: as of a read.
     ///
     /// # Answers
     ///
@@ -367,6 +379,7 @@ impl<A: Disc, B: Disc> Mirror<A, B> {
             (mirror_shows A.Sectors B.Sectors self.new) result }
         ensures step { (s : Standing) → mirror_stands A.Sectors B.Sectors self.old s
             → ResyncStep (mirror_stands A.Sectors B.Sectors self.new) s result }
+        ensures underwent { SidesUnderwent A.Sectors B.Sectors self.old.a self.old.b self.new.a self.new.b }
     {
         if !self.following.on {
             return Resync::Off;

@@ -126,6 +126,7 @@ pub(crate) fn read_record<D: Disc>(
     ensures notes { NotesRecord (D.shows side.old) (D.shows side.new) (noted_of noted.old) (noted_of noted.new) result }
     ensures step { (s : Standing) → D.stands side.old s → RecordStep (D.stands side.new) s result }
     ensures same_shape { (D.shows side.new).shape ≡ (D.shows side.old).shape }
+    ensures underwent { D.underwent side.old side.new }
 {
     let out = side.generation(&mut noted.held, room);
     match out {
@@ -151,6 +152,7 @@ fn write_above<D: Disc>(side: &mut D, noted: &mut Noted, above: u32) -> RecordOu
     ensures wrote { WritesNumber (D.shows side.old) (D.shows side.new) (noted_of noted.old) (noted_of noted.new) (above + 1) result }
     ensures step { (s : Standing) → D.stands side.old s → RecordStep (D.stands side.new) s result }
     ensures same_shape { (D.shows side.new).shape ≡ (D.shows side.old).shape }
+    ensures underwent { D.underwent side.old side.new }
 {
     noted.seen = true;
     noted.most = above + 1;
@@ -173,6 +175,7 @@ pub(crate) fn raise<D: Disc>(side: &mut D, noted: &mut Noted, above: u32) -> Rec
     ensures raises { Raises (D.shows side.old) (D.shows side.new) (noted_of noted.old) (noted_of noted.new) above result }
     ensures step { (s : Standing) → D.stands side.old s → RaiseStep (D.stands side.new) s result }
     ensures same_shape { (D.shows side.new).shape ≡ (D.shows side.old).shape }
+    ensures underwent { D.underwent side.old side.new }
 {
     if above < noted.most {
         return RecordOut::Good;

@@ -5,6 +5,7 @@ ghost use Rattle.ram_sectors.specs.declared.TheConstants.{MOST_BLOCKS};
 ghost use Rattle.model_drive.specs.Shown.{IsOn, IsFormatted, block_count};
 ghost use Rattle.model_mirror.specs.Powers.{goes_before};
 ghost use Rattle.ram_mirror.specs.Notes.{noted_of, leading_of};
+ghost use Rattle.ram_mirror.specs.Sides.{SidesUnderwent};
 ghost use Rattle.ram_mirror.specs.Powering.{WokenSide, tells_other, PowersLed, PowersLedStep};
 
 use crate::following::{Following, Led};
@@ -31,6 +32,7 @@ pub(crate) fn blocks_of<D: Disc>(side: &D) -> u32
 fn wake<D: Disc>(side: &mut D, noted: &mut Noted, room: &mut LeadRecord) -> Waking
     ensures wakes { WokenSide (D.shows side.old) (D.shows side.new) (noted_of noted.old) (noted_of noted.new)
         (D.stands side.old) (D.stands side.new) result }
+    ensures underwent { D.underwent side.old side.new }
 {
     let power = side.power();
     let record = read_record(side, noted, room);
@@ -70,6 +72,7 @@ pub(crate) fn power_both<L: Disc, O: Disc>(
     ensures cause { PowersLed L.Sectors O.Sectors lead_is_a lead.old other.old following.old
         lead.new other.new following.new result }
     ensures step { PowersLedStep L.Sectors O.Sectors lead_is_a lead.old other.old lead.new other.new following.new result }
+    ensures underwent { SidesUnderwent L.Sectors O.Sectors lead.old other.old lead.new other.new }
 {
     following.on = false;
     following.up = false;

@@ -13,7 +13,7 @@ ghost use Rattle.model_mirror.specs.Reads.{MirrorReadsPart, ReadsLed, after_lone
 ghost use Rattle.model_mirror.specs.Shown.{led_by};
 ghost use Rattle.model_mirror.specs.Standing.{IsFollowed, StandsSomehow};
 ghost use Rattle.ram_mirror.specs.Tables.{entries_of};
-ghost use Rattle.ram_mirror.specs.Sides.{shown_as, shown_by, ReadLed, ReadLedStep};
+ghost use Rattle.ram_mirror.specs.Sides.{shown_as, shown_by, SidesUnderwent, ReadLed, ReadLedStep};
 ghost use Rattle.ram_mirror.specs.Reading.{ReadsSide, KeepsOthers, SideGives, InPlace, BytesCame, PartGives, LedGives, AllGives, OffGives};
 
 use crate::following::{Following, Led};
@@ -31,6 +31,7 @@ fn read_side<D: Disc>(side: &mut D, part: Part, into: &mut [u8]) -> ReadOut
         → SideGives (D.stands side.new) disc part.request.lba part.request.n part.block into.old into.new result }
     ensures keeps { KeepsOthers part.request.lba part.request.n part.block into.old into.new }
     ensures same_shape { (D.shows side.new).shape ≡ (D.shows side.old).shape }
+    ensures underwent { D.underwent side.old side.new }
 {
     let at = part.skipped();
     let len = SECTOR_BYTES * (part.end - part.start) as usize;
@@ -58,6 +59,7 @@ fn read_instead<O: Disc>(
     ensures whole { length into.new ≡ length into.old }
     ensures on { following.new.on ≡ following.old.on }
     ensures table { following.new.table ≡ following.old.table }
+    ensures underwent { O.underwent other.old other.new }
 {
     let refused = ReadOut::Unread {
         lba: named,
@@ -105,6 +107,7 @@ fn read_part<L: Disc, O: Disc>(
     ensures on { following.new.on ≡ following.old.on }
     ensures table { following.new.table ≡ following.old.table }
     ensures same_shape { (L.shows lead.new).shape ≡ (L.shows lead.old).shape }
+    ensures underwent { SidesUnderwent L.Sectors O.Sectors lead.old other.old lead.new other.new }
 {
     let out = read_side(lead, part, into);
     match out {
@@ -145,6 +148,7 @@ fn read_block<L: Disc, O: Disc>(
     ensures on { following.new.on ≡ following.old.on }
     ensures table { following.new.table ≡ following.old.table }
     ensures same_shape { (L.shows lead.new).shape ≡ (L.shows lead.old).shape }
+    ensures underwent { SidesUnderwent L.Sectors O.Sectors lead.old other.old lead.new other.new }
 {
     let part = request.part(k);
     read_part(lead, other, following, part, into)
@@ -170,6 +174,7 @@ pub(crate) fn read_parts<L: Disc, O: Disc>(
     ensures whole { length into.new ≡ length into.old }
     ensures on { following.new.on ≡ following.old.on }
     ensures table { entries_of following.new.table ≡ entries_of following.old.table }
+    ensures underwent { SidesUnderwent L.Sectors O.Sectors lead.old other.old lead.new other.new }
 {
     for k in 0..request.blocks() {
         match read_block(lead, other, following, request, k, into) {
@@ -202,6 +207,7 @@ fn read_led<L: Disc, O: Disc>(
     ensures whole { length into.new ≡ length into.old }
     ensures on { following.new.on ≡ following.old.on }
     ensures table { entries_of following.new.table ≡ entries_of following.old.table }
+    ensures underwent { SidesUnderwent L.Sectors O.Sectors lead.old other.old lead.new other.new }
 {
     let Some(capacity) = lead.capacity() else {
         return lead.read(lba, n, into);
@@ -229,6 +235,7 @@ pub(crate) fn read_on<L: Disc, O: Disc>(
         lead.new other.new following.new lba n result }
     ensures step { (side : Bool) → ReadLedStep L.Sectors O.Sectors side lead.old other.old following.old
         lead.new other.new following.new lba n into.new result }
+    ensures underwent { SidesUnderwent L.Sectors O.Sectors lead.old other.old lead.new other.new }
 {
     let out = read_led(lead, other, following, lba, n, into);
     match out {
@@ -261,6 +268,7 @@ fn read_alone<O: Disc>(
     ensures step { (s : Standing) → O.stands lead.old s → ReadStep (O.stands lead.new) s lba n into.new result }
     ensures now { (side : Bool) (other : Shown) → shown_as side (O.shows lead.new) other following.new
         ≡ after_lone_read result (led_by (shown_as side (O.shows lead.old) other following.old) (O.shows lead.new)) }
+    ensures underwent { O.underwent lead.old lead.new }
 {
     let out = lead.read(lba, n, into);
     if matches!(out, ReadOut::Cut | ReadOut::Fault) {

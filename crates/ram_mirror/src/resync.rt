@@ -10,7 +10,7 @@ ghost use Rattle.model_drive.specs.Tells.{HasDisc};
 ghost use Rattle.model_mirror.specs.Steps.{ResyncStep};
 ghost use Rattle.model_mirror.specs.Whole.{ResyncsOn, left_of};
 ghost use Rattle.ram_mirror.specs.Resyncs.{PassesBlock, CopiesAll};
-ghost use Rattle.ram_mirror.specs.Sides.{shown_as, shown_by, stands_by};
+ghost use Rattle.ram_mirror.specs.Sides.{shown_as, shown_by, stands_by, SidesUnderwent};
 
 use crate::copying::copy_block;
 use crate::following::Following;
@@ -35,6 +35,7 @@ fn pass_block<L: Disc, O: Disc>(
         (shown_by L.Sectors O.Sectors side lead.new other.new following.new) block result }
     ensures step { (side : Bool) (s : Standing) → stands_by L.Sectors O.Sectors side lead.old other.old following.old s
         → VerifyStep (stands_by L.Sectors O.Sectors side lead.new other.new following.new) s result }
+    ensures underwent { SidesUnderwent L.Sectors O.Sectors lead.old other.old lead.new other.new }
 {
     if !following.up {
         return ReadOut::Good;
@@ -70,6 +71,7 @@ fn copy_all<L: Disc, O: Disc>(
         (shown_by L.Sectors O.Sectors side lead.new other.new following.new) result }
     ensures step { (side : Bool) (s : Standing) → stands_by L.Sectors O.Sectors side lead.old other.old following.old s
         → VerifyStep (stands_by L.Sectors O.Sectors side lead.new other.new following.new) s result }
+    ensures underwent { SidesUnderwent L.Sectors O.Sectors lead.old other.old lead.new other.new }
 {
     for block in 0..blocks_of(lead) {
         match pass_block(lead, other, following, block, room) {
@@ -94,6 +96,7 @@ pub(crate) fn resync_on<L: Disc, O: Disc>(
         (shown_by L.Sectors O.Sectors side lead.new other.new following.new) result }
     ensures step { (side : Bool) (s : Standing) → stands_by L.Sectors O.Sectors side lead.old other.old following.old s
         → ResyncStep (stands_by L.Sectors O.Sectors side lead.new other.new following.new) s result }
+    ensures underwent { SidesUnderwent L.Sectors O.Sectors lead.old other.old lead.new other.new }
 {
     let counts = lead.counts();
     if !counts.powered {

@@ -8,7 +8,7 @@ ghost use Rattle.model_drive.specs.Tells.{HasDisc};
 ghost use Rattle.model_mirror.specs.Powers.{is_ready_with, is_read, stays_on, stop_of, LeadStops, Finishes, RaisesFirst, Follows, Leads, Starts};
 ghost use Rattle.model_mirror.specs.declared.MirrorPowerOut.TheVariants as outs;
 ghost use Rattle.ram_mirror.specs.Notes.{noted_of, RaiseStep};
-ghost use Rattle.ram_mirror.specs.Sides.{shown_as, shown_by};
+ghost use Rattle.ram_mirror.specs.Sides.{shown_as, shown_by, SidesUnderwent};
 ghost use Rattle.ram_mirror.specs.Powering.{is_ready, StartsAs};
 
 use crate::following::Following;
@@ -65,6 +65,7 @@ fn raise_first<O: Disc>(other: &mut O, following: &mut Following, asked: RecordO
     ensures step { (s : Standing) → O.stands other.old s → RaiseStep (O.stands other.new) s result }
     ensures same_shape { (O.shows other.new).shape ≡ (O.shows other.old).shape }
     ensures up { following.new.up ≡ following.old.up }
+    ensures underwent { O.underwent other.old other.new }
 {
     if !is_read(asked) {
         return RecordOut::Good;
@@ -95,6 +96,7 @@ fn follow<L: Disc, O: Disc>(
     ensures step { (side : Bool) → here.record ≡ records.Good → StartsAs (L.stands lead.now) (L.stands lead.now)
         (O.stands other.old) (O.stands other.new) (shown_by L.Sectors O.Sectors side lead.now other.old following.old)
         (shown_by L.Sectors O.Sectors side lead.now other.new following.new) here there result }
+    ensures underwent { O.underwent other.old other.new }
 {
     let raised = raise_first(other, following, there.record);
     if !following.who.still_tells(raised) {
@@ -120,6 +122,7 @@ fn lead_on<L: Disc, O: Disc>(
     ensures step { (side : Bool) → here.record ≡ records.Good → StartsAs (L.stands lead.old) (L.stands lead.new)
         (O.stands other.old) (O.stands other.new) (shown_by L.Sectors O.Sectors side lead.old other.old following.old)
         (shown_by L.Sectors O.Sectors side lead.new other.new following.new) here there result }
+    ensures underwent { SidesUnderwent L.Sectors O.Sectors lead.old other.old lead.new other.new }
 {
     let above = following.who.other.floor();
     match raise(lead, &mut following.who.lead, above) {
@@ -174,6 +177,7 @@ pub(crate) fn start<L: Disc, O: Disc>(
     ensures step { (side : Bool) → StartsAs (L.stands lead.old) (L.stands lead.new)
         (O.stands other.old) (O.stands other.new) (shown_by L.Sectors O.Sectors side lead.old other.old following.old)
         (shown_by L.Sectors O.Sectors side lead.new other.new following.new) here there result }
+    ensures underwent { SidesUnderwent L.Sectors O.Sectors lead.old other.old lead.new other.new }
 {
     match here.record {
         RecordOut::Good => {

@@ -17,6 +17,7 @@ pub(crate) fn take_lead<O: Disc>(other: &mut O, following: &mut Following) -> bo
         (O.shows other.new) following.new result }
     ensures step { TakeStep (O.stands other.old) (O.stands other.new) result }
     ensures on { following.new.on ≡ result }
+    ensures underwent { O.underwent other.old other.new }
 {
     if !following.may_lead() {
         following.turn_off();

@@ -12,4 +12,6 @@ returns g c = record {
     step = λ s so. power_map (g.D.Sectors.shows c.power-power.new.self) (g.D.Sectors.stands c.power-power.new.self) (once_asked c.read_record-record.result (g.D.Sectors.stands c.read_record-record.new.side))
         (λ t to. asked_step (g.D.Sectors.stands c.read_record-record.new.side) t c.read_record-record.result (c.read_record-record.ensures.step t to)) s c.power-power.result (c.power-power.ensures.step s so);
   };
+  underwent = g.met.D.Sectors.underwent_laws.adds_up c.args.side.now c.power-power.new.self c.read_record-record.new.side
+      c.power-power.ensures.underwent c.read_record-record.ensures.underwent;
 }

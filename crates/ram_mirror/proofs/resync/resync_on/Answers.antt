@@ -20,4 +20,5 @@ returns-in_default g c = record {
   step = λ side s so.
       resynced (stands_by g.L.Sectors g.O.Sectors side c.copy_all.new.lead c.copy_all.new.other c.copy_all.new.following) s c.left_in.result
       (subst (λ (o : ReadOut). VerifyStep (stands_by g.L.Sectors g.O.Sectors side c.copy_all.new.lead c.copy_all.new.other c.copy_all.new.following) s o) (all_good (shown_by g.L.Sectors g.O.Sectors side c.args.lead.now c.args.other.now c.args.following.now) (shown_by g.L.Sectors g.O.Sectors side c.copy_all.new.lead c.copy_all.new.other c.copy_all.new.following) c.copy_all.result (c.copy_all.ensures.cause side) c.in_default.not-Cut c.in_default.not-Fault) (c.copy_all.ensures.step side s so));
+  underwent = c.copy_all.ensures.underwent;
 }
