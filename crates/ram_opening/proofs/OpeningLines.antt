@@ -19,7 +19,6 @@ use Rattle.ram_machine.specs.LineSteps.{CountsUses, Step}
 use Rattle.ram_machine.specs.LineFaults.{LineCount}
 use Rattle.ram_machine.specs.Inserted.{IsAnswered}
 use Rattle.ram_machine.proofs.Answering.{disc_answers}
-use Rattle.ram_text.proofs.Forms.{some_same}
 use Rattle.ram_text.proofs.Faults.{given_word}
 use Rattle.ram_script.specs.Endings.{status_of}
 use Rattle.ram_script.proofs.LinesTaken.{read_uses}
@@ -33,7 +32,7 @@ given_of line payload = record { line = line; payload = payload }
 
 -- a word has one reading, which is a line of an opening
 pub one_fault : (word : List ℕ) (line other : Line) → Some line ≡ fault_word word → IsFaultWord word other → line ≡ other
-one_fault word line other read is = some_same line other (read ∙ given_word word other is)
+one_fault word line other read is = let same : Some line ≡ Some other = read ∙ given_word word other is in cc
 
 pub opens_fault : (word : List ℕ) (line : Line) → IsFaultWord word line → IsOpeningLine line
 opens_fault word (lines.Fail block) is = tt
