@@ -10,7 +10,7 @@ use Rattle.model_sectors.specs.declared.PowerOut.TheVariants as powers
 use Rattle.model_mirror.specs.declared.Waking.{Waking}
 use Rattle.model_mirror.specs.declared.MirrorPowerOut.{MirrorPowerOut}
 use Rattle.model_mirror.specs.declared.MirrorPowerOut.TheVariants as outs
-use Rattle.model_mirror.specs.Leading.{Noted, Raises, WritesNumber, WritesNoNumber, last_number}
+use Rattle.model_mirror.specs.Leading.{Noted, floor_of, Raises, WritesNumber, WritesNoNumber, last_number}
 use Rattle.model_mirror.specs.Shown.{MirrorShown, turned}
 use Rattle.model_mirror.specs.Taking.{IsTaken}
 use Rattle.model_mirror.specs.Giving.{IsGiven}
@@ -109,7 +109,7 @@ taken_ahead mid new taken =
 pub given_ahead : (turns : Bool) (old new : MirrorShown) → IsGiven turns old new → new.who.other.most < new.who.lead.most
 given_ahead turns old new given =
     let named = turned turns old in
-    let above = raised_above named.lead given.mid.lead named.who.lead given.mid.who.lead named.who.other.most given.raises.raises in
+    let above = raised_above named.lead given.mid.lead named.who.lead given.mid.who.lead (floor_of named.who.other) given.raises.raises in
     let same = ap (λ (x : MirrorShown). x.who.other.most) given.raises.new_is in
     let a = ap (λ (x : MirrorShown). x.who.other.most) given.new_is in
     let b = ap (λ (x : MirrorShown). x.who.lead.most) given.new_is in

@@ -8,7 +8,7 @@ use Rattle.model_mirror.specs.declared.GiveOut.{GiveOut}
 use Rattle.model_mirror.specs.declared.GiveOut.TheVariants as outs
 use Rattle.model_mirror.specs.declared.Leader.{Leader}
 use Rattle.model_mirror.specs.declared.Leader.TheVariants as leaders
-use Rattle.model_mirror.specs.Leading.{next_number}
+use Rattle.model_mirror.specs.Leading.{floor_of, next_number}
 use Rattle.model_mirror.specs.Shown.{MirrorShown, turned, mirror_turned_off, given_by_hand}
 use Rattle.model_mirror.specs.Taking.{LeadRaises}
 
@@ -23,21 +23,21 @@ module _ (turns : Bool) (old new : MirrorShown) where
   pub record IsGiven : Type 0 where
     pub mid : MirrorShown
     pub is_on : IsOn (turned turns old).lead
-    pub raises : LeadRaises (turned turns old) mid (turned turns old).who.other.most records.Good
+    pub raises : LeadRaises (turned turns old) mid (floor_of (turned turns old).who.other) records.Good
     pub new_is : new ≡ given_by_hand mid
 
   -- it has not, and who leads is as before
   pub record IsNotGiven (told : RecordOut) : Type 0 where
     pub mid : MirrorShown
     pub is_on : IsOn (turned turns old).lead
-    pub raises : LeadRaises (turned turns old) mid (turned turns old).who.other.most told
+    pub raises : LeadRaises (turned turns old) mid (floor_of (turned turns old).who.other) told
     pub new_is : new ≡ mirror_turned_off (turned turns mid)
 
   -- by the answer
   abbrev pub Gives : GiveOut → Type 0
   Gives outs.Given = IsGiven
   Gives (outs.NoUpdate counter) =
-      IsNotGiven records.Lost × (counter ≡ next_number (turned turns old).who.other.most)
+      IsNotGiven records.Lost × (counter ≡ next_number (floor_of (turned turns old).who.other))
   Gives outs.Cut = IsNotGiven records.Cut
   Gives outs.Off = ¬ IsOn (turned turns old).lead × (new ≡ old)
   Gives outs.Fault = IsNotGiven records.Fault

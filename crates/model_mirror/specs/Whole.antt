@@ -1,5 +1,5 @@
 -- Why each answer of a format and of a resynchronisation of a mirror comes. (This project's own, as all here.)
-use Rattle.std.specs.Prelude.{◌≡◌, ℕ, zero, suc, ◌*◌, ◌<◌, ◌==◌, ◌⊎◌, ◌&&◌, MatchBool, if◌then◌else◌, Bool, true, false, List, replicate}
+use Rattle.std.specs.Prelude.{◌≡◌, ℕ, zero, suc, ◌*◌, ◌<◌, ◌==◌, ◌⊎◌, MatchBool, if◌then◌else◌, Bool, true, false, List, replicate}
 use Rattle.model_sectors.specs.declared.ReadOut.{ReadOut}
 use Rattle.model_sectors.specs.declared.ReadOut.TheVariants as reads
 use Rattle.model_drive.specs.declared.WriteOut.{WriteOut}
@@ -13,8 +13,9 @@ use Rattle.model_mirror.specs.declared.Resync.{Resync}
 use Rattle.model_mirror.specs.declared.Resync.TheVariants as resyncs
 use Rattle.model_mirror.specs.Table.{AreMarked, is_apart, count_apart, is_block}
 use Rattle.model_mirror.specs.Shown.{MirrorShown, mirror_turned_off, led_by}
-use Rattle.model_mirror.specs.Reads.{LeadReads}
-use Rattle.model_mirror.specs.Writes.{WritesSide}
+use Rattle.model_cache.specs.Chains.{ReadsDisc}
+use Rattle.model_mirror.specs.Reads.{LeadReads, up_after_read}
+use Rattle.model_mirror.specs.Writes.{WritesSide, after_lone_write}
 
 -- every block of the lead's disc is apart
 abbrev pub all_apart : Shown → List Bool
@@ -102,15 +103,58 @@ pub record CopiesBlock (old new : MirrorShown) (i : ℕ) : Type 0 where
   pub reads : LeadReads old mid (16 * i) 16 told
   pub goes_on : CopyGoesOn mid new i told
 
--- whether a block is to be copied
-abbrev pub is_to_copy : MirrorShown → ℕ → Bool
-is_to_copy shown i = shown.up && is_apart shown.table i
+-- how a resynchronisation goes on once the lead was written
+abbrev pub once_written : WriteOut → ReadOut
+once_written writes.Cut = reads.Cut
+once_written writes.Fault = reads.Fault
+once_written _ = reads.Good
 
--- The first n blocks were gone through, rising: each that is apart was copied, while the other side is up.
-abbrev pub CopiesBlocks : MirrorShown → MirrorShown → ℕ → Type 0
-CopiesBlocks old new zero = new ≡ old
-CopiesBlocks old new (suc k) = (mid : MirrorShown) × CopiesBlocks old mid k
-    × MatchBool (is_to_copy mid k) (CopiesBlock mid new k) (new ≡ mid)
+module _ (mid new : MirrorShown) (i : ℕ) where
+  -- The block was written to the lead, as the other side has it. The mirror is off where the lead was stopped in that.
+  pub record WritesBack (out : ReadOut) : Type 0 where
+    pub told : WriteOut
+    pub wrote : WritesSide mid.lead new.lead (16 * i) 16 told
+    pub new_is : new ≡ after_lone_write told (led_by mid new.lead)
+    pub out_is : out ≡ once_written told
+
+  -- by the answer of the other side: where that lacks the block too, nothing is written
+  abbrev pub MendEnds : (told out : ReadOut) → Type 0
+  MendEnds reads.Good out = WritesBack out
+  MendEnds _ out = (new ≡ mid) × (out ≡ reads.Good)
+
+-- The other side was asked for a block that the lead lacks.
+pub record MendsLack (mid new : MirrorShown) (i : ℕ) (out : ReadOut) : Type 0 where
+  pub late : MirrorShown
+  pub told : ReadOut
+  pub reads : ReadsDisc mid.other late.other (16 * i) 16 told
+  pub late_is : late ≡ record mid { other = late.other; up = up_after_read told }
+  pub ends : MendEnds late new i told out
+
+-- what comes of a block that is not apart, by the lead's answer
+abbrev pub MendGoesOn : (mid new : MirrorShown) → ℕ → (told out : ReadOut) → Type 0
+MendGoesOn mid new i reads.Good out = (new ≡ mid) × (out ≡ reads.Good)
+MendGoesOn mid new i (reads.Unread named block) out = MendsLack mid new i out
+MendGoesOn mid new i reads.Cut out = (new ≡ mirror_turned_off mid) × (out ≡ reads.Cut)
+MendGoesOn mid new i reads.Fault out = (new ≡ mirror_turned_off mid) × (out ≡ reads.Fault)
+MendGoesOn mid new i _ out = ⊥
+
+-- One block that is not apart was read from the lead; where that lacks it, it got it from the other side, or could not. Where
+-- the lead was stopped in either the mirror is off.
+pub record MendsBlock (old new : MirrorShown) (i : ℕ) (out : ReadOut) : Type 0 where
+  pub mid : MirrorShown
+  pub told : ReadOut
+  pub reads : LeadReads old mid (16 * i) 16 told
+  pub goes_on : MendGoesOn mid new i told out
+
+-- one block was gone through: it was copied if it is apart, else mended, while the other side is up
+abbrev pub GoesThrough : MirrorShown → MirrorShown → ℕ → Type 0
+GoesThrough old new i = MatchBool old.up
+    (MatchBool (is_apart old.table i) (CopiesBlock old new i) (MendsBlock old new i reads.Good)) (new ≡ old)
+
+-- the first n blocks were, rising
+abbrev pub GoesThroughBlocks : MirrorShown → MirrorShown → ℕ → Type 0
+GoesThroughBlocks old new zero = new ≡ old
+GoesThroughBlocks old new (suc k) = (mid : MirrorShown) × GoesThroughBlocks old mid k × GoesThrough mid new k
 
 -- how many blocks are left
 abbrev pub left_of : MirrorShown → ℕ
@@ -120,19 +164,23 @@ left_of shown = if shown.up then count_apart shown.table else block_count shown.
 pub record ResyncsAll (old new : MirrorShown) (left : ℕ) : Type 0 where
   pub on : IsOn old.lead
   pub formatted : IsFormatted old.lead
-  pub copies : CopiesBlocks old new (block_count old.lead)
+  pub through : GoesThroughBlocks old new (block_count old.lead)
   pub left_is : left ≡ left_of new
+
+-- the lead was stopped in the read of a block that was to be copied, and the mirror is off
+pub record CopyStopped (mid new : MirrorShown) (i : ℕ) (told : ReadOut) : Type 0 where
+  pub late : MirrorShown
+  pub reads : LeadReads mid late (16 * i) 16 told
+  pub new_is : new ≡ mirror_turned_off late
 
 -- The lead was stopped at a block. The mirror is off.
 pub record ResyncStopped (old new : MirrorShown) (told : ReadOut) : Type 0 where
   pub before : ℕ
   pub early : before < block_count old.lead
   pub mid : MirrorShown
-  pub copies : CopiesBlocks old mid before
-  pub due : is_to_copy mid before ≡ true
-  pub late : MirrorShown
-  pub reads : LeadReads mid late (16 * before) 16 told
-  pub new_is : new ≡ mirror_turned_off late
+  pub through : GoesThroughBlocks old mid before
+  pub up : mid.up ≡ true
+  pub stops : MatchBool (is_apart mid.table before) (CopyStopped mid new before told) (MendsBlock mid new before told)
 
 -- the resynchronisation of a mirror that is on
 abbrev pub ResyncsOn : MirrorShown → MirrorShown → Resync → Type 0
