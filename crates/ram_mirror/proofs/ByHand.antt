@@ -3,7 +3,7 @@ use Rattle.std.proofs.Common.{◌≡◌, ℕ, Bool, true, false, List, not, refl
 use Rattle.model_drive.specs.declared.RecordOut.{RecordOut}
 use Rattle.model_drive.specs.declared.RecordOut.TheVariants as records
 use Rattle.model_drive.specs.Shown.{IsOn}
-use Rattle.model_mirror.specs.Leading.{Leading, given_leading, next_number}
+use Rattle.model_mirror.specs.Leading.{Leading, floor_of, given_leading, next_number}
 use Rattle.model_mirror.specs.Shown.{MirrorShown, exchanged}
 use Rattle.model_mirror.specs.Taking.{LeadRaises}
 use Rattle.model_mirror.specs.Giving.{IsGiven, IsNotGiven}
@@ -11,7 +11,7 @@ use Rattle.ram_mirror.proofs.Ends.{keeping, kept_as, all_off}
 
 module _ (old mid : MirrorShown) where
   -- the side that is named first has such a record
-  pub was_given : (on up : Bool) (table : List Bool) (who : Leading) → IsOn old.lead → LeadRaises old mid old.who.other.most records.Good
+  pub was_given : (on up : Bool) (table : List Bool) (who : Leading) → IsOn old.lead → LeadRaises old mid (floor_of old.who.other) records.Good
       → on ≡ false → up ≡ false → table ≡ mid.table → who ≡ mid.who → IsGiven false old (keeping mid on up table (given_leading who))
   was_given on up table who is_on raises off down same same_who = record {
     mid = mid;
@@ -21,7 +21,7 @@ module _ (old mid : MirrorShown) where
   }
 
   -- it could not be written
-  pub not_given : (told : RecordOut) (on up : Bool) (table : List Bool) (who : Leading) → IsOn old.lead → LeadRaises old mid old.who.other.most told
+  pub not_given : (told : RecordOut) (on up : Bool) (table : List Bool) (who : Leading) → IsOn old.lead → LeadRaises old mid (floor_of old.who.other) told
       → on ≡ false → up ≡ false → table ≡ mid.table → who ≡ mid.who → IsNotGiven false old (keeping mid on up table who) told
   not_given told on up table who is_on raises off down same same_who = record {
     mid = mid;
@@ -57,5 +57,5 @@ module _ (old named new : MirrorShown) (is : named ≡ exchanged old) where
   over_off last last_is (off, same) = (subst (λ (x : MirrorShown). ¬ IsOn x.lead) is off, last_is ∙ ap exchanged (same ∙ is) ∙ twice old)
 
 -- the number that was due
-pub over_counter : (old named : MirrorShown) → named ≡ exchanged old → (counter : ℕ) → counter ≡ next_number named.who.other.most → counter ≡ next_number (exchanged old).who.other.most
-over_counter old named is counter e = e ∙ ap (λ (x : MirrorShown). next_number x.who.other.most) is
+pub over_counter : (old named : MirrorShown) → named ≡ exchanged old → (counter : ℕ) → counter ≡ next_number (floor_of named.who.other) → counter ≡ next_number (floor_of (exchanged old).who.other)
+over_counter old named is counter e = e ∙ ap (λ (x : MirrorShown). next_number (floor_of x.who.other)) is

@@ -17,3 +17,4 @@ mod Woken
 mod Started
 mod Powered
 mod Events
+mod Mends

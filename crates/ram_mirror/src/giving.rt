@@ -23,7 +23,8 @@ fn next_number(above: u32) -> u32
     u32::MAX
 }
 
-/// Gives the lead to the side that is named first. Its record is made one above that of the other side. However that ends the mirror is off.
+/// Gives the lead to the side that is named first. Its record is made one above that of the other side, and with at least 2. However
+/// that ends the mirror is off.
 pub(crate) fn give_to<D: Disc>(side: &mut D, following: &mut Following) -> GiveOut
     ensures cause { (is_a : Bool) (other : Shown) → GivesNamed (shown_as is_a (D.shows side.old) other following.old)
         (shown_as is_a (D.shows side.new) other following.new) result }
@@ -33,7 +34,7 @@ pub(crate) fn give_to<D: Disc>(side: &mut D, following: &mut Following) -> GiveO
     if !side.counts().powered {
         return GiveOut::Off;
     }
-    let above = following.who.other.most;
+    let above = following.who.other.floor();
     let told = raise(side, &mut following.who.lead, above);
     following.turn_off();
     match told {

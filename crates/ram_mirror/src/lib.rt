@@ -9,7 +9,8 @@
 //! - A lead that is cut or fails gives the lead to the other side where that is up, no block is apart, and its record of the lead
 //!   could be written with a greater number; else the mirror is off.
 //! - The power comes on for both, and the record of each is read. The greater number leads, and stays the lead in this run. Then every
-//!   block is apart, until a write of it or `resync` makes it alike.
+//!   block is apart, until a write of it or `resync` makes it alike. `resync` also gives the lead the blocks that it lacks and the other
+//!   side has.
 //! - Before the power on answers, the number of the lead is above any that the other side may have. So a side that was left behind
 //!   does not lead again, in any run and in either order of the sides. Where that cannot be told the answer is `Unknown`, and
 //!   `give_lead` tells it by hand.
@@ -28,6 +29,7 @@ mod copying;
 mod following;
 mod formatting;
 mod giving;
+mod mending;
 mod mirror;
 mod noted;
 mod power;

@@ -287,7 +287,7 @@ impl<A: Disc, B: Disc> Mirror<A, B> {
     }
 
     /// Gives the lead to a side by hand: to side `a`, or to side `b`. Its record is made one with a number above that of the other side,
-    /// as far as that is known. The mirror is off then until the next power on, which keeps this lead.
+    /// as far as that is known, and with at least 2. The mirror is off then until the next power on, which keeps this lead.
     ///
     /// # Clauses
     ///
@@ -359,20 +359,22 @@ impl<A: Disc, B: Disc> Mirror<A, B> {
         }
     }
 
-    /// Copies each block that is apart from the lead to the other side, in rising order, while that is up. Tells how many are apart still.
+    /// Goes through all blocks in rising order, while the other side is up: each that is apart is copied from the lead to it, and each other
+    /// that the lead lacks is written to the lead as the other side has it. Tells how many are apart still.
     ///
     /// # Clauses
     ///
-    /// - `cause`, `step`: `ResyncCause`: each block that is apart was copied in turn, while the other side was up, and how many
-    ///   are left; `ResyncStep`.
+    /// - `cause`, `step`: `ResyncCause`: each block was copied or mended in turn (`GoesThrough`), while the other side was up, and how
+    ///   many are left; `ResyncStep`: the disc stays.
     /// - `underwent`: as of a read.
     ///
     /// # Answers
     ///
-    /// - `Done`: all blocks were gone through. Then: each that was apart was copied where both sides could; this many are left.
-    ///   (`ResyncsAll`)
+    /// - `Done`: all blocks were gone through. Then: each that was apart was copied where both sides could, and this many are left; each
+    ///   other that the lead lacked was written to it where both could. (`ResyncsAll`, `CopiesBlock`, `MendsBlock`)
     /// - `NotFormatted`: the lead is not formatted. Then: nothing changed. (`ResyncsOn`)
-    /// - `Cut`, `Fault`: the lead was stopped at a block. Then: the mirror is off. (`ResyncStopped`)
+    /// - `Cut`, `Fault`: the lead was stopped at a block, in the read of it or in the writing back. Then: the mirror is off.
+    ///   (`ResyncStopped`)
     /// - `Off`: the mirror is off, or its lead. Then: nothing changed. (`ResyncCause`)
     pub fn resync(&mut self) -> Resync
         ensures cause { ResyncCause (mirror_shows A.Sectors B.Sectors self.old)

@@ -1,4 +1,5 @@
-//! A resynchronisation of a mirror: each block that is apart is copied from the lead to the other side.
+//! A resynchronisation of a mirror: each block that is apart is copied from the lead to the other side, and each other block that the
+//! lead lacks from there to the lead.
 
 ghost use Rattle.std.specs.Prelude.{◌≡◌, ◌<◌, ◌≤◌, ◌+◌, ◌*◌, Bool, true, length};
 ghost use Rattle.ram_sectors.specs.declared.TheConstants.{MOST_BLOCKS};
@@ -9,16 +10,17 @@ ghost use Rattle.model_drive.specs.Shown.{Shown};
 ghost use Rattle.model_drive.specs.Tells.{HasDisc};
 ghost use Rattle.model_mirror.specs.Steps.{ResyncStep};
 ghost use Rattle.model_mirror.specs.Whole.{ResyncsOn, left_of};
-ghost use Rattle.ram_mirror.specs.Resyncs.{PassesBlock, CopiesAll};
+ghost use Rattle.ram_mirror.specs.Resyncs.{PassesBlock, ThroughAll};
 ghost use Rattle.ram_mirror.specs.Sides.{shown_as, shown_by, stands_by, SidesUnderwent};
 
 use crate::copying::copy_block;
 use crate::following::Following;
+use crate::mending::mend_block;
 use crate::power::blocks_of;
 use model_mirror::Resync;
 use ram_sectors::{Disc, ReadOut, Sectors};
 
-/// Copies a block if it is apart and the other side is up.
+/// Copies a block if it is apart, and else mends it in the lead, while the other side is up.
 fn pass_block<L: Disc, O: Disc>(
     lead: &mut L,
     other: &mut O,
@@ -40,10 +42,10 @@ fn pass_block<L: Disc, O: Disc>(
     if !following.up {
         return ReadOut::Good;
     }
-    if !following.table.is_apart(block) {
-        return ReadOut::Good;
+    if following.table.is_apart(block) {
+        return copy_block(lead, other, following, block, room);
     }
-    copy_block(lead, other, following, block, room)
+    mend_block(lead, other, following, block, room)
 }
 
 /// How many blocks are apart still: all of the lead's where the other side is down.
@@ -57,8 +59,8 @@ fn left_in<L: Disc>(lead: &L, following: &Following) -> u32
     blocks_of(lead)
 }
 
-/// Copies each block that is apart, in rising order. Where the lead is stopped the mirror is off.
-fn copy_all<L: Disc, O: Disc>(
+/// Goes through all blocks, in rising order. Where the lead is stopped the mirror is off.
+fn go_through<L: Disc, O: Disc>(
     lead: &mut L,
     other: &mut O,
     following: &mut Following,
@@ -67,7 +69,7 @@ fn copy_all<L: Disc, O: Disc>(
     requires room { length room.old ≡ 32768 }
     requires disc { HasDisc (L.shows lead.old) }
     requires on { following.old.on ≡ true }
-    ensures cause { (side : Bool) → CopiesAll (shown_by L.Sectors O.Sectors side lead.old other.old following.old)
+    ensures cause { (side : Bool) → ThroughAll (shown_by L.Sectors O.Sectors side lead.old other.old following.old)
         (shown_by L.Sectors O.Sectors side lead.new other.new following.new) result }
     ensures step { (side : Bool) (s : Standing) → stands_by L.Sectors O.Sectors side lead.old other.old following.old s
         → VerifyStep (stands_by L.Sectors O.Sectors side lead.new other.new following.new) s result }
@@ -83,7 +85,8 @@ fn copy_all<L: Disc, O: Disc>(
     ReadOut::Good
 }
 
-/// Copies each block that is apart from the lead of a mirror that is on to the other side, while that is up.
+/// Copies each block that is apart from the lead of a mirror that is on to the other side, and mends the others in the lead, while the
+/// other side is up.
 pub(crate) fn resync_on<L: Disc, O: Disc>(
     lead: &mut L,
     other: &mut O,
@@ -105,7 +108,7 @@ pub(crate) fn resync_on<L: Disc, O: Disc>(
     if !counts.formatted {
         return Resync::NotFormatted;
     }
-    match copy_all(lead, other, following, room) {
+    match go_through(lead, other, following, room) {
         ReadOut::Cut => Resync::Cut,
         ReadOut::Fault => Resync::Fault,
         _ => Resync::Done {

@@ -4,7 +4,7 @@ use Rattle.model_sectors.specs.declared.ReadOut.TheVariants as reads
 use Rattle.ram_mirror.specs.Sides.{shown_by}
 use Rattle.ram_mirror.proofs.Events.{and_more}
 use Rattle.ram_mirror.proofs.Passing.{next_inside, goes_on, passed_more, passing_stopped, passing_step, all_passed, all_stand}
-use Rattle.ram_mirror.proofs.resync.copy_all.Goals as goal
+use Rattle.ram_mirror.proofs.resync.go_through.Goals as goal
 
 pub pass_block-requires-clause-inside : goal.pass_block-requires-clause-inside
 pass_block-requires-clause-inside g c =

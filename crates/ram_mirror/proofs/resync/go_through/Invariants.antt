@@ -1,7 +1,7 @@
 use Rattle.std.specs.Prelude.{◌≡◌, Bool, length}
 use Rattle.ram_mirror.specs.Sides.{shown_by, SidesUnderwent}
 use Rattle.ram_mirror.proofs.Passing.{HasPassed}
-use Rattle.ram_mirror.proofs.resync.copy_all.Given as goal
+use Rattle.ram_mirror.proofs.resync.go_through.Given as goal
 
 abbrev pub invariant-loop-block : goal.invariant-loop-block
 invariant-loop-block g l = record {
