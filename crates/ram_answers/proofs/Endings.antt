@@ -14,7 +14,7 @@ use Rattle.ram_answers.specs.TextEnds.{IsToldAt, EndsAfter, TextsEnd}
 use Rattle.ram_answers.specs.TextAsks.{IsToldBy}
 
 -- what was due before the newest line is a part of what is due
-before_within : (report : List ℕ) (events : List AnsweredText) → length (report ++ told_text (told_before events)) ≤ length (report ++ told_text events)
+pub before_within : (report : List ℕ) (events : List AnsweredText) → length (report ++ told_text (told_before events)) ≤ length (report ++ told_text events)
 before_within report [] = omega arith
 before_within report (event ∷ events) = omega (
   arith,
@@ -24,7 +24,7 @@ before_within report (event ∷ events) = omega (
 )
 
 -- known bytes that are these
-told_due : (due : Option (List ℕ)) (text : List ℕ) → is_some due ≡ true → IfSome due (λ bytes. bytes ≡ text) → due ≡ Some text
+pub told_due : (due : Option (List ℕ)) (text : List ℕ) → is_some due ≡ true → IfSome due (λ bytes. bytes ≡ text) → due ≡ Some text
 told_due None text known is = cc
 told_due (Some bytes) text known is = ap Some is
 

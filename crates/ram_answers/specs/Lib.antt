@@ -4,3 +4,5 @@ pub mod TextRuns
 pub mod TextEnds
 pub mod TextAsks
 pub mod StateRuns
+pub mod Reports
+pub mod Telling

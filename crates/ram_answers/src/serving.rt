@@ -4,17 +4,20 @@ ghost use Rattle.ram_outside.specs.Conversation.{AsksOnly};
 ghost use Rattle.ram_text.specs.Dialogue.{HasSameEnds, AsksShown, dialogue_room, due_in, reader_of, talk_of};
 ghost use Rattle.ram_text.specs.DialogueRoom.{IsEmptyRoom};
 ghost use Rattle.ram_text.specs.declared.lines.TheConstants.{LINE_LIMIT};
+ghost use Rattle.ram_script.specs.Endings.{IsOfRun, StatusCounts};
 ghost use Rattle.ram_script.specs.RunCounts.{StopCounts, counts_with};
 ghost use Rattle.ram_script.specs.Progress.{run_view};
 ghost use Rattle.ram_answers.specs.TextRuns.{TextBeginning, ToldSoFar};
 ghost use Rattle.ram_answers.specs.TextAsks.{IsToldBy};
+ghost use Rattle.ram_answers.specs.Telling.{HearsBeginning, TextsToldWith, heard_in};
 ghost use Rattle.ram_answers.specs.TextEnds.{IsToldAt, BetweenTexts, TakesRaw, NextRaw, TextsEnd, TextTurns, TookSome, CountsLine};
 
 use crate::answers::Answers;
 use ram_machine::Stopped;
+use ram_machine::status::Status;
 use ram_outside::Conversation;
 use ram_report::{Print, SinkFailed};
-use ram_script::Tally;
+use ram_script::{AnswerCounts, Tally, finish};
 use ram_text::{Dialogue, NextLine};
 
 /// Answers the lines of a script one after another, and tells why they end.
@@ -66,6 +69,46 @@ pub fn answer_all<A: Answers, T: Conversation>(
             },
         }
     }
+}
+
+/// Answers a whole script, tells each answer and how it ended, and hands over all that is due.
+///
+/// # Clauses
+///
+/// - `told`: What stands with each status (`TextsToldWith`).
+/// - `counts`: By the status which count rose (`StatusCounts`).
+/// - `asks`: Whenever more was asked for, all answers to the whole lines that had come were written.
+///
+/// # Answers
+///
+/// - `Done`, `Script`, `ImageFault`, `SourceFault`, `SinkFault`, `NotADisc`: as for `run` of ram_run. (`TextsToldWith`, `StatusCounts`)
+/// - `Differs`, `Usage`, `NoMemory`: never. (`IsOfRun`)
+pub fn serve_script<A: Answers, T: Conversation>(
+    answers: &mut A,
+    dialogue: &mut Dialogue<T>,
+) -> Status
+    requires empty { IsEmptyRoom (dialogue_room dialogue.old) }
+    ensures same { HasSameEnds dialogue.old dialogue.new }
+    ensures other { IsOfRun result }
+    ensures told { (first : TextBeginning A)
+        → HearsBeginning A.Answers first (heard_in T.Conversation T.Sink.Sink dialogue.old) answers.old
+        → TextsToldWith A.Answers first (heard_in T.Conversation T.Sink.Sink dialogue.new) answers.new
+        (counts_with T.Conversation T.Sink.Sink dialogue.old (A.faults answers.old))
+        (counts_with T.Conversation T.Sink.Sink dialogue.new (A.faults answers.new)) result }
+    ensures counts { StatusCounts
+        (counts_with T.Conversation T.Sink.Sink dialogue.old (A.faults answers.old))
+        (counts_with T.Conversation T.Sink.Sink dialogue.new (A.faults answers.new)) result }
+    ensures asks { (first : TextBeginning A)
+        → HearsBeginning A.Answers first (heard_in T.Conversation T.Sink.Sink dialogue.old) answers.old
+        → AsksOnly (IsToldBy A.Answers first) (T.asked (talk_of dialogue.old)) (T.asked (talk_of dialogue.new)) }
+{
+    let mut tally = Tally {
+        lines: 0,
+        answered: 0,
+        counts: AnswerCounts::new(),
+    };
+    let ending = answer_all(answers, &mut tally, dialogue);
+    finish(dialogue, tally, ending)
 }
 
 /// Takes the next line of the script; false where the script has ended. Pending answers are flushed before more input is read.

@@ -37,6 +37,12 @@ pub fn status_of(ending: Result<(), Stopped>) -> Status
 /// # Clauses
 ///
 /// - `rule`: The last line, where there is one, is printed, and all that is due is handed over.
+///
+/// # Answers
+///
+/// - `SinkFault`: the sink failed in the end, or had failed before. (`FinishRule`)
+/// - `Done`, `Script`, `ImageFault`, `SourceFault`, `NotADisc`: all that is due is written; the status of the ending. (`FinishRule`)
+/// - `Differs`, `Usage`, `NoMemory`: never. (`IsOfRun`)
 pub fn finish<T: Conversation>(
     dialogue: &mut Dialogue<T>,
     tally: Tally,

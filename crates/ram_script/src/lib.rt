@@ -65,7 +65,7 @@ mod state;
 mod telling;
 
 pub use counts::{AnswerCounts, SenseCount};
-pub use ending::status_of;
+pub use ending::{finish, status_of};
 pub use rooms::{SCRIPT_MEMORY, ScriptRooms};
 pub use state::{RunState, STATE_MEMORY, Tally};
 pub use telling::write_text;
