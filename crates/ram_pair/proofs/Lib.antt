@@ -1,0 +1,9 @@
+pub mod Sides
+pub mod Tracked
+pub mod Calls
+pub mod SideCalls
+pub mod Done
+pub mod KnownBytes
+pub mod LineDone
+pub mod OpenedPairs
+pub mod PressedPairs

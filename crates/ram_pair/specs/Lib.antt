@@ -1,0 +1,9 @@
+pub mod PairStates
+pub mod Told
+pub mod PairLines
+pub mod PairSteps
+pub mod Pairs
+pub mod Opening
+pub mod Calls
+pub mod Lines
+pub mod PairTexts

@@ -1,0 +1,2 @@
+mod Opens
+mod Failing
