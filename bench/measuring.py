@@ -44,6 +44,35 @@ def write_command(lba: int, sectors: int, byte: int, fua: bool = False) -> str:
     return f"cdb 2a{8 if fua else 0:02x}{lba:08x}00{sectors:04x}00 fill {byte % 256:02x}\n"
 
 
+def mirror_read(lba: int, sectors: int) -> str:
+    return f"read {lba} {sectors}\n"
+
+
+def mirror_write(lba: int, sectors: int, byte: int) -> str:
+    return f"write {lba} {sectors} fill {byte % 256:02x}\n"
+
+
+class Commands(NamedTuple):
+    """The lines that read and write sectors, of a drive or of a mirror."""
+
+    read: Callable[[int, int], str]
+    write: Callable[[int, int, int], str]
+
+
+OF_DRIVE = Commands(read_command, write_command)
+OF_MIRROR = Commands(mirror_read, mirror_write)
+
+
+def command_of(program: Path, image: Path, word: str) -> List[str]:
+    """The command that serves an image by this word; a mirror is that of the image and of its twin."""
+    return [str(program), word, str(image), *([str(twin_of(image))] if word == "mirror" else [])]
+
+
+def twin_of(image: Path) -> Path:
+    """The second image of a mirror."""
+    return image.with_suffix(".twin")
+
+
 class Bench:
     """A program over an image, which it serves by this word."""
 
@@ -55,8 +84,8 @@ class Bench:
         words = self.image.with_suffix(".script")
         words.write_text(script, encoding="ascii")
         with words.open("rb") as lines:
-            command = [str(self.program), self.word, str(self.image)]
-            process = subprocess.Popen(command, stdin=lines, stdout=subprocess.DEVNULL)
+            process = subprocess.Popen(command_of(self.program, self.image, self.word), stdin=lines,
+                                       stdout=subprocess.DEVNULL)
             _, process.returncode, usage = os.wait4(process.pid, 0)
         if process.returncode:
             raise SystemExit(f"{self.program} ended with status {process.returncode}")
@@ -71,7 +100,7 @@ class Timed(Session):
     """A session of a program over an image, of which each part is timed."""
 
     def __init__(self, program: Path, image: Path, word: str = "run") -> None:
-        super().__init__([str(program)], word, str(image), Statistics())
+        super().__init__(command_of(program, image, word), Statistics())
         clock = ctypes.c_int()
         if ctypes.CDLL(None).clock_getcpuclockid(self.process.pid, ctypes.byref(clock)):
             raise OSError("the processor time of the program cannot be read")
@@ -107,7 +136,7 @@ def in_session(program: Path, image: Path, script: str) -> Job:
 
 
 def is_well(answer: str) -> bool:
-    return not answer.startswith(("cut", "off", "check"))
+    return not answer.startswith(("cut", "off", "check", "unread", "no spare", "no update", "range"))
 
 
 class Piece(NamedTuple):

@@ -7,18 +7,22 @@ from statistics import median
 from typing import Iterable, List, Optional, Sequence, Tuple
 
 import discs
-from measuring import (CACHE_ON, FORMAT, POWER, SYNCHRONIZE, Bench, Measured, Piece, Timed, best,
-                       in_session, in_turn, loop_line, read_command, write_command)
-from model.medium import MOST_SPARES
+from measuring import (CACHE_ON, FORMAT, OF_DRIVE, OF_MIRROR, POWER, SYNCHRONIZE, Bench, Commands, Measured,
+                       Piece, Timed, best, in_session, in_turn, loop_line, twin_of, write_command)
+from model.medium import MOST_SPARES, Geometry
 
 # How many blocks are measured.
 BLOCKS = 896
-NEW_DISC = "press 1 40 16\n" + POWER + FORMAT
+NEW_GEOMETRY = Geometry(1, 40, 16)
+PRESS = "press 1 40 16\n"
+NEW_DISC = PRESS + POWER + FORMAT
 # What is measured is blocks this many logical blocks apart. Each of them is replaced on both discs with
 # defects.
 APART = 128
 # And this many on the disc with a group of spares in each zone.
 IN_ZONES = 3
+# Whether a mirror is written, and the most that it may take beside one disc.
+MIRRORED = (False, 1.02), (True, 2.05)
 SPARES = MOST_SPARES
 # The writes at the start and at the end of a run of many that are measured.
 FEW = 16
@@ -56,18 +60,19 @@ def row(what: str, one: float, other: float, most: Optional[float] = None) -> No
     print(f"{what:<62}{one * 1e6:>10.2f}{other * 1e6:>12.2f}{ratio:>8.2f}{bound}")
 
 
-def scripts_of(write: bool, starts: Iterable[int], count: int = 1) -> List[str]:
+def scripts_of(write: bool, starts: Iterable[int], count: int = 1,
+               commands: Commands = OF_DRIVE) -> List[str]:
     """Scripts of commands that each write or read n blocks, from each of these logical blocks on. Each script
     has 64 blocks, or a few less."""
-    lines = [write_command(16 * i, 16 * count, i) if write else read_command(16 * i, 16 * count)
+    lines = [commands.write(16 * i, 16 * count, i) if write else commands.read(16 * i, 16 * count)
              for i in starts]
     several = IN_PIECE // count
     return ["".join(lines[at:at + several]) for at in range(0, len(lines), several)]
 
 
-def all_blocks(write: bool, count: int) -> List[str]:
+def all_blocks(write: bool, count: int, commands: Commands = OF_DRIVE) -> List[str]:
     """Such scripts for all blocks that are measured."""
-    return scripts_of(write, range(0, BLOCKS - count + 1, count), count)
+    return scripts_of(write, range(0, BLOCKS - count + 1, count), count, commands)
 
 
 def of_a_block(seconds: float, count: int = 1) -> float:
@@ -140,6 +145,40 @@ def groups(program: Path, folder: Path) -> None:
     told_mounts(names, [Bench(program, one.image, "groups"), zones])
     for bench in (zones, one):
         bench.image.unlink()
+
+
+def mirror(program: Path, folder: Path) -> None:
+    """Reads and writes of a mirror beside those of one disc, and how long it takes to copy all blocks."""
+    single, both = Bench(program, folder / "single.img"), Bench(program, folder / "both.img", "mirror")
+    single.once(NEW_DISC + "".join(all_blocks(True, 1)))
+    both.once(f"{PRESS}power\nformat\n{''.join(all_blocks(True, 1, OF_MIRROR))}")
+    cases = [(write, blocks, most) for write, most in MIRRORED for blocks in (1, 4, 16, 64)]
+    mirrored, plain = ([Piece(all_blocks(write, blocks, commands)) for write, blocks, _ in cases]
+                       for commands in (OF_MIRROR, OF_DRIVE))
+    times = in_turn([Measured(program, both.image, "power\nresync\n", mirrored, both.word),
+                     Measured(program, single.image, POWER, plain)], 25)
+    for (write, blocks, most), each in zip(cases, zip(*times)):
+        this, that = (of_a_block(median(seconds), blocks) for seconds in each)
+        what = f"a block {'written' if write else 'read'}, {blocks} a command: a mirror, beside a disc"
+        row(what, this, that, most)
+    resyncs(single, both)
+    for image in (single.image, both.image, twin_of(both.image)):
+        image.unlink()
+
+
+def resyncs(single: Bench, both: Bench) -> None:
+    """A `resync` of all blocks, beside a full format of one disc and a read of all its sectors. Each region
+    of a mirror's map is written before, so that all are copied."""
+    blocks = len(NEW_GEOMETRY.logical)
+    apart = f"power\n{''.join(scripts_of(True, range(0, blocks, IN_PIECE), 1, OF_MIRROR))}power\n"
+    whole = blocks - blocks % IN_PIECE
+    reads = "".join(scripts_of(False, range(0, whole, IN_PIECE), IN_PIECE)
+                    + scripts_of(False, range(whole, blocks)))
+    none, copied, idle, formatted, read = best([
+        both.runs(apart), both.runs(f"{apart}resync\n"), single.runs(POWER), single.runs(POWER + FORMAT),
+        single.runs(POWER + reads)])
+    row("a block of a resync, beside a full format and a read of all", (copied - none) / blocks,
+        (formatted + read - 2 * idle) / blocks, 1.0)
 
 
 def moves(bench: Bench) -> List[float]:

@@ -2,9 +2,14 @@
 
 _ram_drive() {
     case $COMP_CWORD in
-        1) mapfile -t COMPREPLY < <(compgen -W 'run groups generate audit check nbd --help --version' -- "$2") ;;
+        1) mapfile -t COMPREPLY < <(compgen -W 'run groups mirror generate audit check nbd --help --version' -- "$2") ;;
         2) [[ ${COMP_WORDS[1]} == --* ]] || mapfile -t COMPREPLY < <(compgen -f -- "$2") ;;
-        *) [[ ${COMP_WORDS[1]} != nbd ]] || mapfile -t COMPREPLY < <(compgen -W 'fail wear cut' -- "$2") ;;
+        *)
+            case ${COMP_WORDS[1]} in
+                nbd) mapfile -t COMPREPLY < <(compgen -W 'fail wear cut' -- "$2") ;;
+                mirror) ((COMP_CWORD > 3)) || mapfile -t COMPREPLY < <(compgen -f -- "$2") ;;
+            esac
+            ;;
     esac
 }
 
@@ -19,14 +24,15 @@ _ram_map() {
 }
 
 _ram_ctl() {
+    local lines='fail wear cut power scrub cdb stats list disarm a b resync lead'
     case $COMP_CWORD in
         1) mapfile -t COMPREPLY < <(compgen -f -- "$2") ;;
-        *) mapfile -t COMPREPLY < <(compgen -W 'fail wear cut power scrub cdb stats list disarm' -- "$2") ;;
+        *) mapfile -t COMPREPLY < <(compgen -W "$lines" -- "$2") ;;
     esac
 }
 
 _nbdkit_dvdram_plugin() {
-    _dvdram_parameters "$2" "$3" 'image layout press format force program control poweroff'
+    _dvdram_parameters "$2" "$3" 'image image2 layout press format force program control poweroff'
 }
 
 _dvdram_nbd() {
@@ -46,7 +52,7 @@ _dvdram_parameters() {
         layout) mapfile -t COMPREPLY < <(compgen -W 'run groups' -- "${1#=}") ;;
         format | force) mapfile -t COMPREPLY < <(compgen -W 'yes no' -- "${1#=}") ;;
         poweroff) mapfile -t COMPREPLY < <(compgen -W 'stay again exit' -- "${1#=}") ;;
-        image | program | control | log) mapfile -t COMPREPLY < <(compgen -f -- "${1#=}") ;;
+        image | image2 | program | control | log) mapfile -t COMPREPLY < <(compgen -f -- "${1#=}") ;;
         *) mapfile -t COMPREPLY < <(compgen -S= -W "$3" -- "$1"); compopt -o nospace ;;
     esac
 }

@@ -25,6 +25,9 @@ PLUGIN = TOOLS / "nbdkit-dvdram-plugin"
 SECONDS = 120
 """In which a thing comes or ends, on a machine that is busy with others too: what takes longer hangs."""
 
+DISK = Path("mnt/disk")
+"""Where a test mounts a disk, in its folder."""
+
 NBD = ("nbdkit", "nbdkit-plugin-python")
 FILES = (*NBD, "nbdfuse", "fuse", "mkfs.fat", "fsck.fat", "mcopy")
 
@@ -92,6 +95,15 @@ def done(*words: str | Path, env: dict[str, str] | None = None) -> subprocess.Co
     return subprocess.run([str(word) for word in words], stdin=subprocess.DEVNULL, stdout=subprocess.PIPE,
                           stderr=subprocess.STDOUT, text=True, errors="replace", timeout=SECONDS, check=False,
                           env=env)
+
+
+def is_copied(*words: str) -> bool:
+    """Copies a file to the mounted disk or from it. Each write is synced, else the system acknowledges what
+    it only keeps in memory; and mcopy has to tell nothing, for its exit status may be 0 after a failed
+    write."""
+    Path("mtools.conf").write_text(f'drive d: file="{DISK.absolute()}" sync\n', encoding="utf-8")
+    copied = done("mcopy", "-n", "-o", *words, env={**os.environ, "MTOOLSRC": "mtools.conf"})
+    return copied.returncode == 0 and not copied.stdout
 
 
 def run_script(image: str | Path, script: str, word: str = "run") -> list[str]:

@@ -2,27 +2,16 @@
 from __future__ import annotations
 
 import json
-import os
 import random
 from dataclasses import dataclass, field
 from pathlib import Path
 from typing import Any
 
-from support import FILES, TOOLS, FolderTest, Mount, Server, done, needs, random_bytes
+from support import DISK, FILES, TOOLS, FolderTest, Mount, Server, done, is_copied, needs, random_bytes
 
 NEW = "press=1,2,24", "format=yes", "minblock=2048", "poweroff=again"
-DISK = Path("mnt/disk")
 COPIES = 20
 DEAD = 35, 36, 38, 40, 41, 43, 45, 46, 32, 31  # blocks that have no file yet, and two spares
-
-
-def is_copied(*words: str) -> bool:
-    """Copies a file to the disc or from it. Each write is synced, else the system acknowledges what it only
-    keeps in memory; and mcopy has to tell nothing, for its exit status may be 0 after a failed write."""
-    Path("mtools.conf").write_text(f'drive d: file="{DISK.absolute()}" sync\n', encoding="utf-8")
-    settings = {**os.environ, "MTOOLSRC": "mtools.conf"}
-    copied = done("mcopy", "-n", "-o", *words, env=settings)
-    return copied.returncode == 0 and not copied.stdout
 
 
 def runs_of(role: str, state: str) -> list[dict[str, Any]]:

@@ -41,7 +41,8 @@ REFUSED = (  # parameters, and what is told of them
     ("image=new.img press=1,1", "Wrong: press=1,1: it has three numbers, ZONES,SCALE,SPARES"),
     ("image=new.img format=maybe", "Wrong: format=maybe: it is one of yes, no"),
     ("image=new.img size=1",
-     "size is no parameter: there are image, layout, press, format, force, program, control, poweroff"),
+     "size is no parameter: there are image, layout, press, format, force, program, control, poweroff, "
+     "image2"),
     ("image=new.img layout=zones", "Wrong: layout=zones: it is one of run, groups"),
     ("image=new.img layout=groups press=1,1,23", "Wrong: press=1,1,23: no disc has these numbers"),
     ("image=one.img layout=groups press=2,1,4 format=yes",

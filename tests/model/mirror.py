@@ -3,13 +3,14 @@ the lines of its script."""
 from __future__ import annotations
 
 import re
+from contextlib import suppress
 from dataclasses import dataclass, field
 from typing import Callable, List, NamedTuple, Optional, Set, Tuple
 
 from .drive import Check, Drive, TooMany
 from .lists import LAST_COUNTER, SECTORS_IN_BLOCK
 from .medium import BLOCK, MOST_WEARS, SECTOR, Cut, Fate, Geometry, LayoutKind, Medium, PowerCut, State, Wear
-from .script import LARGEST_NUMBER, End, Status, lines_of, sector_line
+from .script import LARGEST_NUMBER, End, Status, report_of, sector_line
 
 MOST_SECTORS = 1_024
 SIGNATURE = b"\x4c\x45\x01"
@@ -227,14 +228,11 @@ class Mirror:
             return "off"
         self.turn_off()
         due = max(2, most + 1)
-        if side.number is None:
-            return f"no update {due}"
-        if side.number < due:
-            try:
-                if due > LAST_COUNTER or not side.write_record(due):
-                    return f"no update {due}"
-            except Stopped:
-                return "cut"
+        try:
+            if (side.number or 0) < due and (due > LAST_COUNTER or not side.write_record(due)):
+                return f"no update {min(due, LAST_COUNTER)}"
+        except Stopped:
+            return "cut"
         self.lead_is, self.by_hand = at, True
         return "ab"[at]
 
@@ -311,37 +309,35 @@ class Mirror:
             raise told from None
 
     def write(self, first: int, data: bytes) -> None:
-        count = len(data) // SECTOR
-        self.check(first, count)
-        covered = range(first // SECTORS_IN_BLOCK, (first + count - 1) // SECTORS_IN_BLOCK + 1)
+        self.check(first, len(data) // SECTOR)
         try:
-            self.write_side(self.lead, first, data)
-        except Refused as refused:
-            self.apart.update(block for block in covered if refused.is_behind(block))
-            raise
+            self.write_lead(first, data)
         except Stopped:
             if not self.hand_over():
                 raise
             self.write_alone(first, data)
             return
         if self.up:
-            self.follow(first, data, covered)
+            self.follow(first, data)
 
-    def write_alone(self, first: int, data: bytes) -> None:
+    def write_lead(self, first: int, data: bytes) -> None:
+        """Writes the lead. Where it refuses, the blocks that it may have written are apart."""
         try:
             self.write_side(self.lead, first, data)
         except Refused as refused:
-            end = first + len(data) // SECTOR
-            self.apart.update(block for block in range(first // 16, (end - 1) // 16 + 1)
-                              if refused.is_behind(block))
+            self.apart.update(block for block in covered_by(first, data) if refused.is_behind(block))
             raise
+
+    def write_alone(self, first: int, data: bytes) -> None:
+        try:
+            self.write_lead(first, data)
         except Stopped:
             self.turn_off()
             raise
 
-    def follow(self, first: int, data: bytes, covered: range) -> None:
+    def follow(self, first: int, data: bytes) -> None:
         """Writes the other side after the lead."""
-        count = len(data) // SECTOR
+        count, covered = len(data) // SECTOR, covered_by(first, data)
         try:
             self.write_side(self.other, first, data)
         except Refused as refused:
@@ -392,18 +388,32 @@ class Mirror:
         if sectors is None:
             return "not formatted"
         for block in range(sectors // SECTORS_IN_BLOCK):
-            if self.up and block in self.apart:
-                self.copy(block)
+            if self.up:
+                self.bring_up(block)
         return f"left {len(self.apart) if self.up else sectors // SECTORS_IN_BLOCK}"
 
-    def copy(self, block: int) -> None:
+    def bring_up(self, block: int) -> None:
+        """Copies a block that is apart to the other side, and one that is not to a lead that lacks it."""
         try:
-            data = self.read_side(self.lead, SECTORS_IN_BLOCK * block, SECTORS_IN_BLOCK)
-        except Refused:
-            return
+            data = self.read_block(self.lead, block)
+            if block in self.apart:
+                if data is not None:
+                    self.copy(block, data)
+            elif data is None:
+                self.mend(block)
         except Stopped:
             self.turn_off()
             raise
+
+    def read_block(self, side: Side, block: int) -> Optional[bytes]:
+        """All of a block, where the side can read it."""
+        try:
+            return self.read_side(side, SECTORS_IN_BLOCK * block, SECTORS_IN_BLOCK)
+        except Refused:
+            return None
+
+    def copy(self, block: int, data: bytes) -> None:
+        """Writes a block of the lead to the other side."""
         try:
             self.write_side(self.other, SECTORS_IN_BLOCK * block, data)
         except Refused:
@@ -412,6 +422,22 @@ class Mirror:
             self.up = False
             return
         self.apart.discard(block)
+
+    def mend(self, block: int) -> None:
+        """Writes a block that the lead lacks as the other side has it."""
+        try:
+            data = self.read_block(self.other, block)
+        except Stopped:
+            self.up = False
+            return
+        if data is not None:
+            with suppress(Refused):
+                self.write_side(self.lead, SECTORS_IN_BLOCK * block, data)
+
+
+def covered_by(first: int, data: bytes) -> range:
+    """The blocks of which a write has a sector."""
+    return range(first // SECTORS_IN_BLOCK, (first + len(data) // SECTOR - 1) // SECTORS_IN_BLOCK + 1)
 
 
 def parts_of(first: int, count: int) -> List[Tuple[int, int]]:
@@ -546,21 +572,7 @@ def arm(medium: Medium, line: Line) -> str:
 
 def run(script: bytes, images: Tuple[bytes, bytes]) -> Tuple[bytes, int, Tuple[bytes, bytes]]:
     """The report of a script over two images, the exit status, and the images afterwards."""
-    pair, report, answered, status = Pair([bytearray(image) for image in images]), [], 0, Status.DONE
-    try:
-        for line_number, raw in lines_of(script):
-            line = line_of(raw)
-            if line is None:
-                raise End(Status.SCRIPT, f"{line_number} not in the script language")
-            try:
-                answer, *more = pair.answer(line)
-            except End as end:
-                raise End(end.status, f"{line_number} {end.words}") from None
-            report += [f"{line_number} {answer}", *more]
-            answered += 1
-        report.append(f"end {answered}")
-    except End as end:
-        status = end.status
-        report.append(end.words)
+    pair = Pair([bytearray(image) for image in images])
+    report, status = report_of(script, line_of, pair.answer)
     first, second = pair.images
-    return "".join(f"{line}\n" for line in report).encode("ascii"), int(status), (bytes(first), bytes(second))
+    return report, status, (bytes(first), bytes(second))

@@ -3,7 +3,7 @@ from __future__ import annotations
 
 import re
 from enum import IntEnum
-from typing import Iterator, List, NamedTuple, Optional, Tuple
+from typing import Callable, Iterator, List, NamedTuple, Optional, Tuple, TypeVar
 
 from .cache import CachedDrive
 from .commands import READS, Block, Target
@@ -21,6 +21,9 @@ FORMS = ("(press) NUMBER NUMBER NUMBER", "(power)", "(tick)", "(scrub)", "(scrub
          "(cdb) HEX (fill|count) XX", "(cdb) HEX (hex) HEX")
 PATTERNS = [re.compile(re.sub("NUMBER|HEX|XX", lambda word: WORDS[str(word.group())], form))
             for form in FORMS]
+
+AnyLine = TypeVar("AnyLine")
+"""The lines of a script, of one drive or of a mirror."""
 
 
 class Status(IntEnum):
@@ -193,17 +196,17 @@ class Run:
         return ["good"] + ([f"data {len(reply)} {reply.hex()}"] if reply else [])
 
 
-def run(script: bytes, image: bytes, layout: LayoutKind = LayoutKind.ONE_GROUP,
-        over: Optional[Run] = None) -> Tuple[bytes, int, bytes]:
-    """The report of a script over an image, the exit status, and the image afterwards."""
-    state, report, answered, status = over or Run(image, layout), [], 0, Status.DONE
+def report_of(script: bytes, line_in: Callable[[bytes], Optional[AnyLine]],
+              answer_to: Callable[[AnyLine], List[str]]) -> Tuple[bytes, int]:
+    """The report of a script whose lines are read and answered so, and the exit status."""
+    report, answered, status = [], 0, Status.DONE
     try:
         for line_number, raw in lines_of(script):
-            line = line_of(raw)
+            line = line_in(raw)
             if line is None:
                 raise End(Status.SCRIPT, f"{line_number} not in the script language")
             try:
-                answer, *more = state.answer(line)
+                answer, *more = answer_to(line)
             except End as end:
                 raise End(end.status, f"{line_number} {end.words}") from None
             report += [f"{line_number} {answer}", *more]
@@ -212,4 +215,12 @@ def run(script: bytes, image: bytes, layout: LayoutKind = LayoutKind.ONE_GROUP,
     except End as end:
         status = end.status
         report.append(end.words)
-    return "".join(f"{line}\n" for line in report).encode("ascii"), int(status), bytes(state.image)
+    return "".join(f"{line}\n" for line in report).encode("ascii"), int(status)
+
+
+def run(script: bytes, image: bytes, layout: LayoutKind = LayoutKind.ONE_GROUP,
+        over: Optional[Run] = None) -> Tuple[bytes, int, bytes]:
+    """The report of a script over an image, the exit status, and the image afterwards."""
+    state = over or Run(image, layout)
+    report, status = report_of(script, line_of, state.answer)
+    return report, status, bytes(state.image)

@@ -1,7 +1,7 @@
 """The control socket: a second channel to a drive, on which a person lets blocks die and cuts the power.
 
-Each line is answered by some lines and an empty one. Beside the lines of the script but `press` there are
-`stats`, `list`, `disarm` and `cut now`.
+Each line is answered by some lines and an empty one. Beside the lines of the script but `press`, which are
+others for a mirror, there are `stats`, `list`, `disarm` and `cut now`.
 """
 from __future__ import annotations
 
@@ -95,17 +95,18 @@ def answer_line(drive: Drive, line: str) -> list[str]:
     except (NoLine, Ended, NoDisc, Refused) as error:
         return [str(error)]
     except OSError as error:
-        return [f"{drive.image}: {error.strerror}"]
+        return [f"{error.filename}: {error.strerror}"]
 
 
 def list_blocks(drive: Drive) -> list[str]:
-    """The dead and the torn blocks, and what was armed; what was armed for a block that is dead by now is
-    left out."""
-    states = Disc(drive.program, drive.image).states
-    bad = [f"{state.value} {block}"
-           for block, state in enumerate(states) if state in (State.DEAD, State.TORN)]
-    dead = {f"wear {block}" for block, state in enumerate(states) if state is State.DEAD}
-    return bad + [f"armed {arm}" for arm in drive.armed if arm.rpartition(" ")[0] not in dead]
+    """The dead and the torn blocks of each disc, and what was armed; what was armed for a block that is dead
+    by now is left out."""
+    bad = [(side, state, block) for side, image in drive.discs
+           for block, state in enumerate(Disc(drive.program, image).states)
+           if state in (State.DEAD, State.TORN)]
+    dead = {f"{side}wear {block}" for side, state, block in bad if state is State.DEAD}
+    return [*(f"{side}{state.value} {block}" for side, state, block in bad),
+            *(f"armed {arm}" for arm in drive.armed if arm.rpartition(" ")[0] not in dead)]
 
 
 def disarm(drive: Drive) -> list[str]:

@@ -56,6 +56,16 @@ class Drive:
         self.statistics = Statistics()
 
     @property
+    def discs(self) -> list[tuple[str, str]]:
+        """The image of each disc, and before it what stands in a line that names the disc."""
+        return [("", self.image)]
+
+    @property
+    def words(self) -> list[str]:
+        """Those of the program that begin a session."""
+        return [self.layout.value, self.image]
+
+    @property
     def live(self) -> Session:
         """The session in use."""
         assert self.session
@@ -64,9 +74,14 @@ class Drive:
     def begin(self) -> None:
         """Begins a session, where there is none, with the power as it was."""
         if not self.session:
-            self.session = Session(self.program, self.layout.value, self.image, self.statistics)
+            self.session = Session([*self.program, *self.words], self.statistics)
             if self.is_on:
-                self.exchange("power")
+                self.turn_on()
+
+    @in_session
+    def turn_on(self) -> None:
+        """Turns the power on for a host."""
+        self.exchange("power")
 
     def end(self) -> int:
         """Ends the session, where there is one, and gives its exit status. What was armed ends with it."""
@@ -85,10 +100,14 @@ class Drive:
         """Begins a new session with the power as it was. What was armed is dropped, and so is what is
         buffered."""
         if self.is_on:
-            self.exchange(SYNCHRONIZE)
+            self.settle()
         self.end()
         self.statistics.renewals += 1
         self.begin()
+
+    def settle(self) -> None:
+        """Has the drive write what it keeps, before a session ends."""
+        self.exchange(SYNCHRONIZE)
 
     def make_room(self, size: int) -> None:
         """Renews a session that has no room for this many bytes. One in which something is armed goes on as
@@ -106,6 +125,11 @@ class Drive:
     def exchange(self, line: str) -> list[str]:
         """Sends a line, and gives its answer with the rows behind it."""
         text = self.answer_to(self.live.send(line.encode()))
+        self.heed(line, text)
+        return [text, *(self.live.row().decode() for _ in range(rows_after(line, text)))]
+
+    def heed(self, line: str, text: str) -> None:
+        """Heeds what the answer to a line tells of the power, and of what is armed."""
         words = line.split()
         if words[0] == "power":
             self.is_on = self.has_attention = text != "cut"
@@ -114,7 +138,6 @@ class Drive:
         if text == "armed":
             kept = [arm for arm in self.armed if words[0] != "cut" or not arm.startswith("cut")]
             self.armed = [*kept, line]
-        return [text, *(self.live.row().decode() for _ in range(rows_after(line, text)))]
 
     def answer_to(self, number: int) -> str:
         """The answer to the line of this number. Heeds that the power was cut, and that an attention was
@@ -155,7 +178,12 @@ class Drive:
         `NoLine`."""
         if not text.strip(" ") or text.startswith("#"):
             return []
-        return self.command(line_of(text))
+        return self.command(self.line_of(text))
+
+    @staticmethod
+    def line_of(text: str) -> str:
+        """The line that a person sends. Raises `NoLine`."""
+        return line_of(text)
 
     @in_session
     def cut_now(self) -> str:
@@ -187,7 +215,7 @@ class Drive:
     def read_part(self, sector: int, into: memoryview) -> None:
         """Reads sectors by one command."""
         count = len(into) // SECTOR
-        answer = self.answer_to(self.live.send(b"cdb a800%08x%08x0000" % (sector, count)))
+        answer = self.answer_to(self.live.send(self.read_line(sector, count)))
         if answer != "good":
             raise Refused(answer)
         for at in range(count):
@@ -199,19 +227,29 @@ class Drive:
         for at in range(0, len(data) // SECTOR, PIECE_SECTORS):
             piece = data[at * SECTOR:(at + PIECE_SECTORS) * SECTOR]
             self.serve_host(2 * len(piece) + LINE_ROOM * (2 + len(piece) // SECTOR // BLOCK_SECTORS))
-            self.do(write_lines(sector + at, piece))
+            self.do(write_lines(self.write_line, sector + at, piece))
 
     @in_session
     def fill(self, sector: int, count: int) -> None:
         """Writes zeros."""
         self.serve_host(LINE_ROOM * (2 + count // (MOST_SECTORS - BLOCK_SECTORS)))
-        self.do(b"cdb aa00%08x%08x0000 fill 00" % part for part in parts(sector, count))
+        self.do(self.write_line(*part) + b" fill 00" for part in parts(sector, count))
 
     @in_session
     def synchronize(self) -> None:
         """Has the drive write what it keeps."""
         self.serve_host(LINE_ROOM)
         self.do([SYNCHRONIZE.encode()])
+
+    @staticmethod
+    def read_line(sector: int, count: int) -> bytes:
+        """The command that reads these sectors."""
+        return b"cdb a800%08x%08x0000" % (sector, count)
+
+    @staticmethod
+    def write_line(sector: int, count: int) -> bytes:
+        """The command that writes these sectors, without their data."""
+        return b"cdb aa00%08x%08x0000" % (sector, count)
 
 
 def bytes_of(row: bytes, sector: int) -> bytes:
@@ -235,9 +273,9 @@ def parts(sector: int, count: int, most: int = MOST_SECTORS) -> Iterator[tuple[i
         sector += some
 
 
-def write_lines(sector: int, data: memoryview) -> Iterator[bytes]:
-    """The commands of a write: one for each logical block, but for a row of them whose bytes are all
-    equal."""
+def write_lines(front: Callable[[int, int], bytes], sector: int, data: memoryview) -> Iterator[bytes]:
+    """The commands of a write, each behind its front: one for each logical block, but for a row of them whose
+    bytes are all equal."""
     row: tuple[int, int, int] | None = None
     at = 0
     for first, count in parts(sector, len(data) // SECTOR, BLOCK_SECTORS):
@@ -245,11 +283,11 @@ def write_lines(sector: int, data: memoryview) -> Iterator[bytes]:
         at += count * SECTOR
         is_fill = block == block[:1] * len(block)
         if row and not (is_fill and row[2] == block[0] and row[1] + count <= MOST_SECTORS):
-            yield b"cdb aa00%08x%08x0000 fill %02x" % row
+            yield front(*row[:2]) + b" fill %02x" % row[2]
             row = None
         if not is_fill:
-            yield b"cdb aa00%08x%08x0000 hex %s" % (first, count, binascii.hexlify(block))
+            yield front(first, count) + b" hex " + binascii.hexlify(block)
         else:
             row = (row[0], row[1] + count, row[2]) if row else (first, count, block[0])
     if row:
-        yield b"cdb aa00%08x%08x0000 fill %02x" % row
+        yield front(*row[:2]) + b" fill %02x" % row[2]

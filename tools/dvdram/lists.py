@@ -61,6 +61,11 @@ class Geometry:
         return [(1, 4), (3, 5), (self.lead_out + 1, self.lead_out + 4),
                 (self.lead_out + 3, self.lead_out + 5)]
 
+    @property
+    def record_blocks(self) -> list[int]:
+        """The blocks of the four copies of the record of the lead, which a disc of a mirror has."""
+        return [6, 7, self.lead_out + 6, self.lead_out + 7]
+
     def fits_zones(self) -> bool:
         """Each zone has room for its spares, and a list for those of all."""
         return self.zones * self.spares <= MOST_SPARES and self.spares + 2 < 25 * self.scale

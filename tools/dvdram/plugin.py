@@ -16,9 +16,10 @@ import nbdkit
 from . import Ended, NoDisc, Refused, SocketInUse, Wrong
 from .control import Listener, answer_line, serve
 from .drive import Drive
-from .prepare import Parameters, open_image, prepare
+from .prepare import open_image
 from .program import find_program
 from .protocol import SECTOR
+from .sides import SidesParameters, ready_drive
 
 __all__ = [
     "API_VERSION", "after_fork", "block_size", "can_fast_zero", "can_flush", "can_fua", "can_multi_conn",
@@ -30,6 +31,8 @@ API_VERSION = 2
 PREFERRED, MOST = 32_768, 32 << 20
 TOLD = (Wrong, Refused, Ended, NoDisc, SocketInUse, OSError)
 """What is told to a user. Every other exception is an error of these tools."""
+NO_SPARE, NO_REQUEST = ("check 3/32/00", "no spare "), ("check 5/", "range ")
+"""How a drive begins to tell that no spare is left, or that a request may not be; and how a mirror does."""
 TRACE = 1_000  # lines of a trace that Python prints by itself
 
 T = TypeVar("T")
@@ -37,16 +40,16 @@ T = TypeVar("T")
 
 @dataclass
 class Serving:
-    """What is served: the image, which is locked and synced by its file, the drive over it, and the control
-    socket."""
+    """What is served: the images, which are locked and synced by their files, the drive over them, and the
+    control socket."""
 
-    image: int
+    images: list[int]
     drive: Drive
     control: Optional[Listener]
     lock: Lock
 
 
-parameters = Parameters()
+parameters = SidesParameters()
 serving: Optional[Serving] = None
 
 
@@ -89,10 +92,10 @@ def get_ready() -> None:
     leave them waiting."""
     global serving  # pylint: disable=global-statement
     program = find_program(parameters.program)
-    image = open_image(parameters)
-    prepare(parameters, program)
+    images = [open_image(side) for side in parameters.sides]
+    drive = ready_drive(parameters, program)
     control = Listener(parameters.control) if parameters.control else None
-    serving = Serving(image, Drive(program, parameters.image, parameters.kind), control, Lock())
+    serving = Serving(images, drive, control, Lock())
 
 
 def after_fork() -> None:
@@ -124,17 +127,17 @@ def heed_power(was_on: bool) -> None:
         return
     if parameters.poweroff == "again":
         with suppress(Ended):  # the next request begins again
-            drive.say("power")
+            drive.turn_on()
     if parameters.poweroff == "exit":
         nbdkit.shutdown()
 
 
 def error_of(error: Exception) -> int:
     """The error of a host for an exception of a drive."""
-    sense = error.sense if isinstance(error, Refused) else None
-    if sense == "3/32/00":
+    answer = error.answer if isinstance(error, Refused) else ""
+    if answer.startswith(NO_SPARE):
         return errno.ENOSPC
-    if isinstance(error, Wrong) or sense and sense.startswith("5/"):
+    if isinstance(error, Wrong) or answer.startswith(NO_REQUEST):
         return errno.EINVAL
     return errno.EIO
 
@@ -168,7 +171,8 @@ def sectors(offset: int, size: int) -> Tuple[int, int]:
 def synchronize() -> None:
     """What was acknowledged is on the host's own disk."""
     served().drive.synchronize()
-    os.fdatasync(served().image)
+    for image in served().images:
+        os.fdatasync(image)
 
 
 @for_client

@@ -70,27 +70,29 @@ def open_image(words: Parameters) -> int:
         image = os.open(words.image, os.O_RDWR | os.O_CLOEXEC | (os.O_CREAT if words.press else 0), 0o666)
         lock(image)
     except FileNotFoundError:
-        raise Wrong(f"image={words.image} is not there: press=ZONES,SCALE,SPARES makes it") from None
+        raise Wrong(f"{words.image} is not there: press=ZONES,SCALE,SPARES makes it") from None
     except BlockingIOError:
-        raise Wrong(f"image={words.image} is in use by another drive") from None
+        raise Wrong(f"{words.image} is in use by another drive") from None
     except OSError as error:
-        raise Wrong(f"image={words.image}: {error.strerror}") from None
+        raise Wrong(f"{words.image}: {error.strerror}") from None
     return image
 
 
-def prepare(words: Parameters, program: list[str]) -> None:
-    """Presses and formats the disc where that is asked for and due, and sees that it has sectors."""
+def prepare(words: Parameters, program: list[str]) -> bool:
+    """Presses and formats the disc where that is asked for and due, and sees that it has sectors: whether it
+    was formatted."""
     if must_press(words, program):
         press(words, program)
     drive = Drive(program, words.image, words.kind, is_on=False)
-    answer = drive.say("power")[0]
-    if answer == "not formatted":
+    is_bare = drive.say("power")[0] == "not formatted"
+    if is_bare:
         see_layout(words, program)
         if words.format == "yes":
             format_disc(words, drive)
         elif not words.control:
-            raise Wrong(f"image={words.image} is not formatted: format=yes formats it")
+            raise Wrong(f"{words.image} is not formatted: format=yes formats it")
     end(drive)
+    return is_bare and words.format == "yes"
 
 
 def see_layout(words: Parameters, program: list[str]) -> None:
@@ -98,7 +100,7 @@ def see_layout(words: Parameters, program: list[str]) -> None:
     disc = Disc(program, words.image)
     other = disc.geometry.layout
     if disc.lists and other is not words.kind and words.force == "no":
-        raise Wrong(f"image={words.image} holds a disc of another layout: layout={other.value} serves it")
+        raise Wrong(f"{words.image} holds a disc of another layout: layout={other.value} serves it")
 
 
 def must_press(words: Parameters, program: list[str]) -> bool:
@@ -108,11 +110,11 @@ def must_press(words: Parameters, program: list[str]) -> bool:
     try:
         disc = Disc(program, words.image)
         if words.kind is LayoutKind.EACH_ZONE and not disc.geometry.fits_zones():
-            raise Wrong(f"image={words.image} holds a disc without room for a group of spares in each "
-                        "zone: it is no disc to layout=groups")
+            raise Wrong(f"{words.image} holds a disc without room for a group of spares in each zone: it is "
+                        "no disc to layout=groups")
     except NoDisc:
         if not words.press:
-            raise Wrong(f"image={words.image} holds no disc: press=ZONES,SCALE,SPARES makes one") from None
+            raise Wrong(f"{words.image} holds no disc: press=ZONES,SCALE,SPARES makes one") from None
         return True
     return False
 
@@ -127,13 +129,13 @@ def press(words: Parameters, program: list[str]) -> None:
 
 
 def format_disc(words: Parameters, drive: Drive) -> None:
-    """Formats the disc. One that was written before is formatted by force alone: it may have lost its
-    lists."""
+    """Formats the disc. One that was written before, but for the record of a mirror's lead, is formatted by
+    force alone: it may have lost its lists."""
     disc = Disc(drive.program, words.image)
-    was_written = any(state in (State.GOOD, State.TORN) for state in disc.states)
+    was_written = any(state in (State.GOOD, State.TORN) and block not in disc.geometry.record_blocks
+                      for block, state in enumerate(disc.states))
     if was_written and words.force == "no":
-        raise Wrong(f"image={words.image} was written, and is not formatted any more: "
-                    "force=yes formats it anew")
+        raise Wrong(f"{words.image} was written, and is not formatted any more: force=yes formats it anew")
     drive.command(IS_READY)
     answer = drive.command(FORMAT)[0]
     if answer != "good":

@@ -74,21 +74,24 @@ def rows_after(line: str, text: str) -> int:
     """How many lines stand behind this answer to this line."""
     if text.startswith("found "):
         return int(text.split()[1])
-    is_good = line.startswith("cdb ") and text == "good"
-    return rows_after_good(bytes.fromhex(line.split()[1])) if is_good else 0
+    if text != "good":
+        return 0
+    if line.startswith("read "):  # of a mirror
+        return int(line.split()[2])
+    return rows_after_good(bytes.fromhex(line.split()[1])) if line.startswith("cdb ") else 0
 
 
 class Session:
-    """One run of the program over an image, by the word `run` or `groups`. Raises `Ended` where the program
-    cannot be run, or ended."""
+    """One run of the program with a script, by a command such as `ram_drive run IMAGE`. Raises `Ended` where
+    the program cannot be run, or ended."""
 
-    def __init__(self, program: list[str], word: str, image: str, statistics: Statistics) -> None:
+    def __init__(self, command: list[str], statistics: Statistics) -> None:
         self.statistics, self.lines, self.sent = statistics, 0, 0
         try:
-            self.process = subprocess.Popen([*program, word, image], stdin=subprocess.PIPE,
-                                            stdout=subprocess.PIPE, bufsize=0, start_new_session=True)
+            self.process = subprocess.Popen(command, stdin=subprocess.PIPE, stdout=subprocess.PIPE, bufsize=0,
+                                            start_new_session=True)
         except OSError as error:
-            raise Ended(f"{program[0]} cannot be run: {error.strerror}") from None
+            raise Ended(f"{command[0]} cannot be run: {error.strerror}") from None
         assert self.process.stdin and self.process.stdout
         self.script, report = self.process.stdin, self.process.stdout
         for pipe in (self.script, report):

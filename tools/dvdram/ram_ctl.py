@@ -15,7 +15,8 @@ def main() -> int:
     parser = argparse.ArgumentParser(prog="ram-ctl", description=__doc__)
     parser.add_argument("socket", metavar="SOCKET")
     parser.add_argument("lines", metavar="LINE", nargs="*",
-                        help="of the script but press, or one of: stats, list, disarm, cut now")
+                        help="of the script, or of that of a mirror, but press; or one of: stats, list, "
+                             "disarm, cut now")
     words = parser.parse_args()
     refused = 0
     try:

@@ -105,7 +105,8 @@ def accept(server: socket.socket, target: Target) -> None:
 def main() -> int:
     parser = argparse.ArgumentParser(prog="dvdram-iscsi", description=HELP)
     parser.add_argument("words", nargs="+", metavar="NAME=VALUE",
-                        help="image=FILE, and port, log or one of the parameters of nbdkit-dvdram-plugin")
+                        help="image=FILE, and port, log or one of the parameters of nbdkit-dvdram-plugin but "
+                             "image2")
     signal.signal(signal.SIGTERM, lambda *_: sys.exit(0))
     try:
         parameters = parameters_of(parser.parse_args().words)
