@@ -3,6 +3,7 @@ machine."""
 from __future__ import annotations
 
 import argparse
+import select
 import signal
 import socket
 import sys
@@ -91,9 +92,21 @@ def end(target: Target) -> None:
         target.unit.drive.end()
 
 
-def accept(server: socket.socket, target: Target) -> None:
-    """Serves initiators until the server is shut down."""
+def wake_by_signals(stack: ExitStack) -> socket.socket:
+    """A socket that can be read once a signal came. A signal that comes right before a call that waits does not
+    end the wait by itself."""
+    woken, waker = socket.socketpair()
+    stack.enter_context(woken)
+    stack.enter_context(waker)
+    waker.setblocking(False)
+    stack.callback(signal.set_wakeup_fd, signal.set_wakeup_fd(waker.fileno()))
+    return woken
+
+
+def accept(server: socket.socket, target: Target, woken: socket.socket) -> None:
+    """Serves initiators until the server is shut down, or a signal is handled."""
     while True:
+        select.select([server, woken], [], [])
         try:
             client, _ = server.accept()
         except OSError:
@@ -114,7 +127,7 @@ def main() -> int:
             server = stack.enter_context(server_at(parameters.port))
             target = make_target(parameters, server, stack)
             print(f"iscsi://{HOST}:{server.getsockname()[1]}/{NAME}/0", flush=True)
-            accept(server, target)
+            accept(server, target, wake_by_signals(stack))
     except (Wrong, Refused, Ended, NoDisc, SocketInUse, OSError) as error:
         print(f"dvdram-iscsi: {error}", file=sys.stderr)
         return 1
