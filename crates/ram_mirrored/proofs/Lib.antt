@@ -1,0 +1,3 @@
+pub mod StatesTold
+pub mod Counted
+pub mod Closing

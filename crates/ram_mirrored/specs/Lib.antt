@@ -1,0 +1,3 @@
+pub mod MirrorRuns
+pub mod Running
+pub mod Rooms
