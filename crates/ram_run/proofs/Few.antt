@@ -5,7 +5,7 @@ use Rattle.std.proofs.Common.{arith, refl, sym, ap, ◌∙◌, inl, inr}
 use Rattle.std.proofs.lemmas.List.{length-map}
 use Rattle.model_geometry.specs.declared.kinds.LayoutKind.{LayoutKind}
 use Rattle.model_geometry.specs.declared.kinds.LayoutKind.TheVariants.{OneGroup, EachZone}
-use Rattle.ram_run.specs.Words.{seed_of, served_word, IsServedOf, IsGenerateOf, IsNbd, IsWordForm}
+use Rattle.ram_run.specs.Words.{seed_of, served_word, IsServedOf, IsGenerateOf, IsNbd, IsMirror, IsWordForm}
 
 pub map_of_two : {X Y : Type 0} (f : X → Y) (xs : List X) (d : X) → length xs ≡ 2 → map f xs ≡ f (get_or xs 0 d) ∷ f (get_or xs 1 d) ∷ []
 map_of_two f [] d two = absurd (omega arith)
@@ -40,14 +40,15 @@ module _ (words : List (Bor (List ℕ))) (none : Bor (List ℕ)) (empty : none.n
   pub by_number : IsWordForm (map (λ (word : Bor (List ℕ)). word.now) words) → ((kind : LayoutKind) → length words ≡ 2 → (get_or words 0 none).now ≡ served_word kind → ⊥) → (length words ≡ 3 → (get_or words 0 none).now ≡ codes "generate" → ⊥)
       → (length words ≡ 1 → (get_or words 0 none).now ≡ codes "--help" → ⊥) → (length words ≡ 1 → (get_or words 0 none).now ≡ codes "--version" → ⊥)
       → (length words ≡ 2 → (get_or words 0 none).now ≡ codes "audit" → ⊥) → (length words ≡ 2 → (get_or words 0 none).now ≡ codes "check" → ⊥)
-      → ¬ IsNbd (map (λ (word : Bor (List ℕ)). word.now) words) → ⊥
-  by_number (inl (kind, served)) two three help version audit check nbd = two kind (how_many _ served.1) (which _ served.1)
-  by_number (inr (inl (name, seed, of))) two three help version audit check nbd = three (how_many _ of.1) (which _ of.1)
-  by_number (inr (inr (inl is))) two three help version audit check nbd = help (how_many _ is) (which _ is)
-  by_number (inr (inr (inr (inl is)))) two three help version audit check nbd = version (how_many _ is) (which _ is)
-  by_number (inr (inr (inr (inr (inl (name, inl is)))))) two three help version audit check nbd = audit (how_many _ is) (which _ is)
-  by_number (inr (inr (inr (inr (inl (name, inr is)))))) two three help version audit check nbd = check (how_many _ is) (which _ is)
-  by_number (inr (inr (inr (inr (inr session))))) two three help version audit check nbd = nbd session
+      → ¬ IsNbd (map (λ (word : Bor (List ℕ)). word.now) words) → ¬ IsMirror (map (λ (word : Bor (List ℕ)). word.now) words) → ⊥
+  by_number (inl (kind, served)) two three help version audit check nbd mirror = two kind (how_many _ served.1) (which _ served.1)
+  by_number (inr (inl (name, seed, of))) two three help version audit check nbd mirror = three (how_many _ of.1) (which _ of.1)
+  by_number (inr (inr (inl is))) two three help version audit check nbd mirror = help (how_many _ is) (which _ is)
+  by_number (inr (inr (inr (inl is)))) two three help version audit check nbd mirror = version (how_many _ is) (which _ is)
+  by_number (inr (inr (inr (inr (inl (name, inl is)))))) two three help version audit check nbd mirror = audit (how_many _ is) (which _ is)
+  by_number (inr (inr (inr (inr (inl (name, inr is)))))) two three help version audit check nbd mirror = check (how_many _ is) (which _ is)
+  by_number (inr (inr (inr (inr (inr (inl session)))))) two three help version audit check nbd mirror = nbd session
+  by_number (inr (inr (inr (inr (inr (inr pair)))))) two three help version audit check nbd mirror = mirror pair
 
 -- the word tells one kind of layout
 by_word : (a b : LayoutKind) → served_word a ≡ served_word b → a ≡ b

@@ -13,8 +13,9 @@ use Rattle.ram_text.specs.declared.script.Line.{Line}
 use Rattle.ram_text.specs.Faults.{AreFaultWords}
 use Rattle.ram_certificate.specs.Auditing.{Audits, Checks}
 use Rattle.ram_client.specs.Serving.{ServesClient}
+use Rattle.ram_mirrored.specs.Running.{RunsMirror}
 use Rattle.ram_run.specs.declared.help.TheConstants.{HELP, VERSION}
-use Rattle.ram_run.specs.Words.{IsServedOf, IsGenerateOf, IsAuditOf, IsCheckOf, IsNbdOf, AsksForSession, IsHelp, IsVersion, IsWordForm, UsageRule, MemoryRule}
+use Rattle.ram_run.specs.Words.{IsServedOf, IsGenerateOf, IsAuditOf, IsCheckOf, IsNbdOf, IsMirrorOf, AsksForSession, IsHelp, IsVersion, IsWordForm, UsageRule, MemoryRule}
 use Rattle.ram_run.specs.Promises.{RunsScript, RunsDrawn, Promises}
 use Rattle.ram_run.proofs.Few.{one_served, one_generate, one_name}
 
@@ -39,6 +40,9 @@ check_number words name is = ap number is
 
 nbd_number : (words : List (List ℕ)) (name : List ℕ) (faults : List Line) → IsNbdOf name faults words → number words ≡ 878
 nbd_number words name faults is = ap number is.1
+
+mirror_number : (words : List (List ℕ)) (a b : List ℕ) → IsMirrorOf a b words → number words ≡ 1645
+mirror_number words a b is = ap number is.0
 
 help_number : (words : List (List ℕ)) → IsHelp words → number words ≡ 1581
 help_number words is = ap number is
@@ -117,7 +121,8 @@ module _ {I : Type 0} (bytes_of : I → Option (List ℕ)) (past_of : I → Opti
     drawn = λ name seed words_are. absurd (none (inr (inl (name, seed, words_are))));
     audit = λ name words_are. absurd (none (inr (inr (inr (inr (inl (name, inl words_are)))))));
     check = λ name words_are. absurd (none (inr (inr (inr (inr (inl (name, inr words_are)))))));
-    client = λ name faults words_are. absurd (none (inr (inr (inr (inr (inr (name, faults, words_are)))))));
+    client = λ name faults words_are. absurd (none (inr (inr (inr (inr (inr (inl (name, faults, words_are))))))));
+    mirror = λ a b words_are. absurd (none (inr (inr (inr (inr (inr (inr (a, b, words_are))))))));
   }
     where
       untouched : IsUntouched old new
@@ -138,6 +143,7 @@ module _ {I : Type 0} (bytes_of : I → Option (List ℕ)) (past_of : I → Opti
       audit = λ name' other. let a = help_number words is in let b = audit_number words name' other in absurd (omega (arith, a, b));
       check = λ name' other. let a = help_number words is in let b = check_number words name' other in absurd (omega (arith, a, b));
       client = λ name' faults' other. let a = help_number words is in let b = nbd_number words name' faults' other in absurd (omega (arith, a, b));
+      mirror = λ a' b' other. let a = help_number words is in let b = mirror_number words a' b' other in absurd (omega (arith, a, b));
     }
 
     -- the version is told
@@ -154,6 +160,7 @@ module _ {I : Type 0} (bytes_of : I → Option (List ℕ)) (past_of : I → Opti
       audit = λ name' other. let a = version_number words is in let b = audit_number words name' other in absurd (omega (arith, a, b));
       check = λ name' other. let a = version_number words is in let b = check_number words name' other in absurd (omega (arith, a, b));
       client = λ name' faults' other. let a = version_number words is in let b = nbd_number words name' faults' other in absurd (omega (arith, a, b));
+      mirror = λ a' b' other. let a = version_number words is in let b = mirror_number words a' b' other in absurd (omega (arith, a, b));
     }
 
     -- a script runs
@@ -171,6 +178,7 @@ module _ {I : Type 0} (bytes_of : I → Option (List ℕ)) (past_of : I → Opti
       audit = λ name' other. absurd (not_served words 1377 (audit_number words name' other) (λ e. omega (arith, e)) (λ e. omega (arith, e)) kind name is);
       check = λ name' other. absurd (not_served words 1379 (check_number words name' other) (λ e. omega (arith, e)) (λ e. omega (arith, e)) kind name is);
       client = λ name' faults' other. absurd (not_served words 878 (nbd_number words name' faults' other) (λ e. omega (arith, e)) (λ e. omega (arith, e)) kind name is);
+      mirror = λ a' b' other. absurd (not_served words 1645 (mirror_number words a' b' other) (λ e. omega (arith, e)) (λ e. omega (arith, e)) kind name is);
     }
 
     -- a drawn script runs
@@ -188,6 +196,7 @@ module _ {I : Type 0} (bytes_of : I → Option (List ℕ)) (past_of : I → Opti
       audit = λ name' other. let a = drawn_number words name seed is in let b = audit_number words name' other in absurd (omega (arith, a, b));
       check = λ name' other. let a = drawn_number words name seed is in let b = check_number words name' other in absurd (omega (arith, a, b));
       client = λ name' faults' other. let a = drawn_number words name seed is in let b = nbd_number words name' faults' other in absurd (omega (arith, a, b));
+      mirror = λ a' b' other. let a = drawn_number words name seed is in let b = mirror_number words a' b' other in absurd (omega (arith, a, b));
     }
 
     -- an image is told
@@ -204,6 +213,7 @@ module _ {I : Type 0} (bytes_of : I → Option (List ℕ)) (past_of : I → Opti
       audit = λ name' other. subst (λ (n : List ℕ). Audits bytes_of old new knows n status) (one_name words (codes "audit") (codes "audit") name name' is other) keeps;
       check = λ name' other. let a = audit_number words name is in let b = check_number words name' other in absurd (omega (arith, a, b));
       client = λ name' faults' other. let a = audit_number words name is in let b = nbd_number words name' faults' other in absurd (omega (arith, a, b));
+      mirror = λ a' b' other. let a = audit_number words name is in let b = mirror_number words a' b' other in absurd (omega (arith, a, b));
     }
 
     -- a text is checked
@@ -220,6 +230,7 @@ module _ {I : Type 0} (bytes_of : I → Option (List ℕ)) (past_of : I → Opti
       audit = λ name' other. let a = check_number words name is in let b = audit_number words name' other in absurd (omega (arith, a, b));
       check = λ name' other. subst (λ (n : List ℕ). Checks bytes_of old new knows n status) (one_name words (codes "check") (codes "check") name name' is other) keeps;
       client = λ name' faults' other. let a = check_number words name is in let b = nbd_number words name' faults' other in absurd (omega (arith, a, b));
+      mirror = λ a' b' other. let a = check_number words name is in let b = mirror_number words a' b' other in absurd (omega (arith, a, b));
     }
 
     -- a client is served
@@ -228,7 +239,7 @@ module _ {I : Type 0} (bytes_of : I → Option (List ℕ)) (past_of : I → Opti
         → Promises bytes_of past_of knows old new status words
     of_client name asked is keeps = record {
       memory = remembers status of;
-      usage = has_form words status of (inr (inr (inr (inr (inr (name, is.faults, whole))))));
+      usage = has_form words status of (inr (inr (inr (inr (inr (inl (name, is.faults, whole)))))));
       untouched = may_touch old new status of;
       causes = causes;
       help = λ other. let a = here in let b = help_number words other in absurd (omega (arith, a, b));
@@ -241,9 +252,31 @@ module _ {I : Type 0} (bytes_of : I → Option (List ℕ)) (past_of : I → Opti
           let same : codes "nbd" ∷ name ∷ asked ≡ codes "nbd" ∷ name' ∷ other.0 = sym is.words_are ∙ other.1 in
           subst (λ (n : List ℕ). ServesClient bytes_of past_of knows old new status n faults') (ap (λ (l : List (List ℕ)). get_or l 1 []) same)
           (keeps faults' (subst (λ (l : List (List ℕ)). AreFaultWords l faults') (sym (ap (λ (l : List (List ℕ)). drop 2 l) same)) other.2));
+      mirror = λ a' b' other. let a = here in let b = mirror_number words a' b' other in absurd (omega (arith, a, b));
     } where
       whole : IsNbdOf name is.faults words
       whole = (asked, is.words_are, is.read)
 
       here : number words ≡ 878
       here = nbd_number words name is.faults whole
+
+    -- a script for a mirror runs
+    pub of_mirror : (a b : List ℕ) → IsMirrorOf a b words → RunsMirror bytes_of past_of knows old new status a b
+        → Promises bytes_of past_of knows old new status words
+    of_mirror a b is keeps = record {
+      memory = remembers status of;
+      usage = has_form words status of (inr (inr (inr (inr (inr (inr (a, b, is)))))));
+      untouched = may_touch old new status of;
+      causes = causes;
+      help = λ other. let n = mirror_number words a b is in let m = help_number words other in absurd (omega (arith, n, m));
+      version = λ other. let n = mirror_number words a b is in let m = version_number words other in absurd (omega (arith, n, m));
+      script = λ kind' name' other. absurd (not_served words 1645 (mirror_number words a b is) (λ e. omega (arith, e)) (λ e. omega (arith, e)) kind' name' other);
+      drawn = λ name' seed' other. let n = mirror_number words a b is in let m = drawn_number words name' seed' other in absurd (omega (arith, n, m));
+      audit = λ name' other. let n = mirror_number words a b is in let m = audit_number words name' other in absurd (omega (arith, n, m));
+      check = λ name' other. let n = mirror_number words a b is in let m = check_number words name' other in absurd (omega (arith, n, m));
+      client = λ name' faults' other. let n = mirror_number words a b is in let m = nbd_number words name' faults' other in absurd (omega (arith, n, m));
+      mirror = λ a' b' other.
+          let same : codes "mirror" ∷ a ∷ b ∷ [] ≡ codes "mirror" ∷ a' ∷ b' ∷ [] = sym is.0 ∙ other.0 in
+          subst (λ (n : List ℕ). RunsMirror bytes_of past_of knows old new status n b') (ap (λ (l : List (List ℕ)). get_or l 1 []) same)
+          (subst (λ (n : List ℕ). RunsMirror bytes_of past_of knows old new status a n) (ap (λ (l : List (List ℕ)). get_or l 2 []) same) keeps);
+    }

@@ -9,7 +9,7 @@ use Rattle.ram_text.specs.Faults.{AreFaultWords, fault_word}
 use Rattle.ram_text.proofs.Faults.{found_word, given_word}
 use Rattle.ram_run.specs.declared.form.Form.{Form}
 use Rattle.ram_run.specs.declared.form.Form.TheVariants as forms
-use Rattle.ram_run.specs.Words.{IsNbd, IsWordForm, AsksForSession, SessionRule, FormRule}
+use Rattle.ram_run.specs.Words.{IsNbd, IsMirror, IsWordForm, AsksForSession, SessionRule, MirrorRule, LongerRule, FormRule}
 
 -- words that all read as faults
 faults_found : (asked : List (Bor (List ℕ))) → list_all (λ (word : Bor (List ℕ)). is_some (fault_word word.now)) asked ≡ true
@@ -86,14 +86,54 @@ session_words (a ∷ b ∷ rest) none (name, faults, (asked, is, are)) = record 
       ∙ all_read rest faults (subst (λ (l : List (List ℕ)). AreFaultWords l faults) (sym (ap (λ (l : List (List ℕ)). drop 2 l) is)) are);
 }
 
+-- what words of a mirror are
+pub record IsPair (words : List (Bor (List ℕ))) (none : Bor (List ℕ)) : Type 0 where
+  pub three : length words ≡ 3
+  pub named : (get_or words 0 none).now ≡ codes "mirror"
+  pub differ : (get_or words 1 none).now ≡ (get_or words 2 none).now → ⊥
+
+pub pair_words : (words : List (Bor (List ℕ))) (none : Bor (List ℕ)) → IsMirror (map (λ (word : Bor (List ℕ)). word.now) words) → IsPair words none
+pair_words [] none (a, b, is) = absurd (omega (arith, ap length is.0))
+pair_words (u ∷ []) none (a, b, is) = absurd (omega (arith, ap length is.0))
+pair_words (u ∷ v ∷ []) none (a, b, is) = absurd (omega (arith, ap length is.0))
+pair_words (u ∷ v ∷ w ∷ []) none (a, b, is) = record {
+  three = refl;
+  named = ap (λ (l : List (List ℕ)). get_or l 0 []) is.0;
+  differ = λ same. is.1 (sym (ap (λ (l : List (List ℕ)). get_or l 1 []) is.0) ∙ same ∙ ap (λ (l : List (List ℕ)). get_or l 2 []) is.0);
+}
+pair_words (u ∷ v ∷ w ∷ x ∷ rest) none (a, b, is) = absurd (omega (arith, ap length is.0))
+
+-- words that ask for a session, and else for a mirror
+pub session_longer : (words : List (List ℕ)) (form : Form) → SessionRule words (Some form) → LongerRule words (Some form)
+session_longer words (forms.Nbd name asked) rule = rule
+session_longer words (forms.Run kind name) rule = absurd rule
+session_longer words (forms.Generate name seed) rule = absurd rule
+session_longer words (forms.Audit name) rule = absurd rule
+session_longer words (forms.Check name) rule = absurd rule
+session_longer words (forms.Mirror a b) rule = absurd rule
+session_longer words forms.Help rule = absurd rule
+session_longer words forms.Version rule = absurd rule
+
+pub mirror_longer : (words : List (List ℕ)) (result : Option Form) → ¬ IsNbd words → MirrorRule words result → LongerRule words result
+mirror_longer words None none rule = (none, rule)
+mirror_longer words (Some (forms.Mirror a b)) none rule = rule
+mirror_longer words (Some (forms.Nbd name asked)) none rule = absurd rule
+mirror_longer words (Some (forms.Run kind name)) none rule = absurd rule
+mirror_longer words (Some (forms.Generate name seed)) none rule = absurd rule
+mirror_longer words (Some (forms.Audit name)) none rule = absurd rule
+mirror_longer words (Some (forms.Check name)) none rule = absurd rule
+mirror_longer words (Some forms.Help) none rule = absurd rule
+mirror_longer words (Some forms.Version) none rule = absurd rule
+
 -- words of no other form
-pub session_form : (words : List (List ℕ)) (result : Option Form) → SessionRule words result → (¬ IsNbd words → ¬ IsWordForm words)
-    → FormRule words result
-session_form words None rule others = others rule
-session_form words (Some (forms.Nbd name asked)) rule others = rule
-session_form words (Some (forms.Run kind name)) rule others = absurd rule
-session_form words (Some (forms.Generate name seed)) rule others = absurd rule
-session_form words (Some (forms.Audit name)) rule others = absurd rule
-session_form words (Some (forms.Check name)) rule others = absurd rule
-session_form words (Some forms.Help) rule others = absurd rule
-session_form words (Some forms.Version) rule others = absurd rule
+pub longer_form : (words : List (List ℕ)) (result : Option Form) → LongerRule words result
+    → (¬ IsNbd words → ¬ IsMirror words → ¬ IsWordForm words) → FormRule words result
+longer_form words None rule others = others rule.0 rule.1
+longer_form words (Some (forms.Nbd name asked)) rule others = rule
+longer_form words (Some (forms.Mirror a b)) rule others = rule
+longer_form words (Some (forms.Run kind name)) rule others = absurd rule
+longer_form words (Some (forms.Generate name seed)) rule others = absurd rule
+longer_form words (Some (forms.Audit name)) rule others = absurd rule
+longer_form words (Some (forms.Check name)) rule others = absurd rule
+longer_form words (Some forms.Help) rule others = absurd rule
+longer_form words (Some forms.Version) rule others = absurd rule

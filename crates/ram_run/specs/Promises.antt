@@ -17,8 +17,9 @@ use Rattle.ram_script.specs.Promise.{KeepsBytes}
 use Rattle.ram_summary.specs.Generating.{BeginsFrom, Generates, AsksUnread}
 use Rattle.ram_certificate.specs.Auditing.{Audits, Checks}
 use Rattle.ram_client.specs.Serving.{ServesClient}
+use Rattle.ram_mirrored.specs.Running.{RunsMirror}
 use Rattle.ram_run.specs.declared.help.TheConstants.{HELP, VERSION}
-use Rattle.ram_run.specs.Words.{IsServedOf, IsGenerateOf, IsAuditOf, IsCheckOf, IsNbdOf, IsHelp, IsVersion, UsageRule, MemoryRule}
+use Rattle.ram_run.specs.Words.{IsServedOf, IsGenerateOf, IsAuditOf, IsCheckOf, IsNbdOf, IsMirrorOf, IsHelp, IsVersion, UsageRule, MemoryRule}
 
 -- By what is known before and after, where the opener tells what is handed back or not, and by the status.
 module _ {I : Type 0} (bytes_of : I → Option (List ℕ)) (past_of : I → Option (List Moment)) (knows : Bool) (old new : Surroundings I) (status : Status) where
@@ -60,3 +61,4 @@ module _ {I : Type 0} (bytes_of : I → Option (List ℕ)) (past_of : I → Opti
     pub check : (name : List ℕ) → IsCheckOf name words → Checks bytes_of old new knows name status
     pub client : (name : List ℕ) (faults : List Line) → IsNbdOf name faults words
         → ServesClient bytes_of past_of knows old new status name faults
+    pub mirror : (a b : List ℕ) → IsMirrorOf a b words → RunsMirror bytes_of past_of knows old new status a b

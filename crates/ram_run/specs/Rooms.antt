@@ -8,7 +8,8 @@ use Rattle.ram_script.specs.Rooms.{AreReady}
 use Rattle.ram_summary.specs.Rooms.{AreReadyFor}
 use Rattle.ram_certificate.specs.Rooms.{AreReadyToTell}
 use Rattle.ram_serve.specs.Rooms.{AreReadyToServe}
-use Rattle.ram_run.specs.Words.{IsServedImage, IsGenerate, IsOfCertificate, IsNbd}
+use Rattle.ram_mirrored.specs.Rooms.{AreReadyToMirror}
+use Rattle.ram_run.specs.Words.{IsServedImage, IsGenerate, IsOfCertificate, IsNbd, IsMirror}
 
 -- they are those for the lines of a script (this project's own, as all here)
 abbrev pub AreOfScript : LayoutKind → Rooms → Type 0
@@ -30,13 +31,19 @@ abbrev pub AreOfSession : Rooms → Type 0
 AreOfSession (taken.Session rooms) = AreReadyToServe OneGroup rooms
 AreOfSession _ = ⊥
 
+-- they are those for a mirror
+abbrev pub AreOfMirror : Rooms → Type 0
+AreOfMirror (taken.Mirror rooms) = AreReadyToMirror rooms
+AreOfMirror _ = ⊥
+
 -- The words need no rooms: they neither run the lines of a script, nor one that is drawn from a number, nor tell or check a certificate,
--- nor serve a client.
+-- nor serve a client, nor ask for a mirror.
 pub record NeedNoRooms (words : List (List ℕ)) : Type 0 where
   pub served : (kind : LayoutKind) → ¬ IsServedImage kind words
   pub generate : ¬ IsGenerate words
   pub certificate : ¬ IsOfCertificate words
   pub session : ¬ IsNbd words
+  pub mirror : ¬ IsMirror words
 
 -- They are those that the words ask for.
 pub record AreRoomsFor (words : List (List ℕ)) (rooms : Rooms) : Type 0 where
@@ -44,3 +51,4 @@ pub record AreRoomsFor (words : List (List ℕ)) (rooms : Rooms) : Type 0 where
   pub generate : IsGenerate words → AreOfNumber rooms
   pub certificate : IsOfCertificate words → AreOfCertificate rooms
   pub session : IsNbd words → AreOfSession rooms
+  pub mirror : IsMirror words → AreOfMirror rooms

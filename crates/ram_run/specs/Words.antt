@@ -62,6 +62,14 @@ IsNbdOf name faults words =
 abbrev pub IsNbd : List (List ℕ) → Type 0
 IsNbd words = (name : List ℕ) × (faults : List Line) × IsNbdOf name faults words
 
+-- the words are `mirror` and these names of two images, which differ
+abbrev pub IsMirrorOf : (a b : List ℕ) → List (List ℕ) → Type 0
+IsMirrorOf a b words = (words ≡ codes "mirror" ∷ a ∷ b ∷ []) × (a ≡ b → ⊥)
+
+-- the words are `mirror` and two names of images, which differ
+abbrev pub IsMirror : List (List ℕ) → Type 0
+IsMirror words = (a : List ℕ) × (b : List ℕ) × IsMirrorOf a b words
+
 -- the words are `--help` alone
 abbrev pub IsHelp : List (List ℕ) → Type 0
 IsHelp words = words ≡ codes "--help" ∷ []
@@ -74,7 +82,7 @@ IsVersion words = words ≡ codes "--version" ∷ []
 abbrev pub IsWordForm : List (List ℕ) → Type 0
 IsWordForm words =
     ((kind : LayoutKind) × IsServedImage kind words) ⊎ IsGenerate words ⊎ IsHelp words ⊎ IsVersion words
-    ⊎ IsOfCertificate words ⊎ IsNbd words
+    ⊎ IsOfCertificate words ⊎ IsNbd words ⊎ IsMirror words
 
 -- the words are none of the program's forms exactly where the status is that of usage
 abbrev pub UsageRule : List (List ℕ) → Status → Type 0
@@ -98,6 +106,19 @@ SessionRule words None = ¬ IsNbd words
 SessionRule words (Some (forms.Nbd name asked)) = AsksForSession name.now (map (λ word. word.now) asked.now) words
 SessionRule words (Some form) = ⊥
 
+-- the form of words that ask for a mirror, and none of others
+abbrev pub MirrorRule : List (List ℕ) → Option Form → Type 0
+MirrorRule words None = ¬ IsMirror words
+MirrorRule words (Some (forms.Mirror a b)) = IsMirrorOf a.now b.now words
+MirrorRule words (Some form) = ⊥
+
+-- the form of words that ask for a session or for a mirror, and none of others
+abbrev pub LongerRule : List (List ℕ) → Option Form → Type 0
+LongerRule words None = (¬ IsNbd words) × (¬ IsMirror words)
+LongerRule words (Some (forms.Nbd name asked)) = AsksForSession name.now (map (λ word. word.now) asked.now) words
+LongerRule words (Some (forms.Mirror a b)) = IsMirrorOf a.now b.now words
+LongerRule words (Some form) = ⊥
+
 -- the form of the words, where they have one
 abbrev pub FormRule : List (List ℕ) → Option Form → Type 0
 FormRule words None = ¬ IsWordForm words
@@ -106,5 +127,6 @@ FormRule words (Some (forms.Generate name seed)) = IsGenerateOf name.now seed wo
 FormRule words (Some (forms.Audit name)) = IsAuditOf name.now words
 FormRule words (Some (forms.Check name)) = IsCheckOf name.now words
 FormRule words (Some (forms.Nbd name asked)) = AsksForSession name.now (map (λ word. word.now) asked.now) words
+FormRule words (Some (forms.Mirror a b)) = IsMirrorOf a.now b.now words
 FormRule words (Some forms.Help) = IsHelp words
 FormRule words (Some forms.Version) = IsVersion words

@@ -2,7 +2,7 @@
 ghost use Rattle.std.specs.Prelude.{◌≡◌, is_some, map};
 ghost use Rattle.std.specs.List.{list_all};
 ghost use Rattle.ram_text.specs.Faults.{fault_word};
-ghost use Rattle.ram_run.specs.Words.{FormRule, SessionRule};
+ghost use Rattle.ram_run.specs.Words.{FormRule, LongerRule, SessionRule, MirrorRule};
 
 use crate::seed::seed_of;
 use ram_text::parse_fault;
@@ -21,6 +21,8 @@ pub enum Form<'a> {
     Check(&'a str),
     /// Serve a client the disc in the image of this name, in which the words make something fail.
     Nbd(&'a str, &'a [&'a str]),
+    /// Run a script for a mirror of the discs in the images of these names.
+    Mirror(&'a str, &'a str),
     /// Tell what the program does.
     Help,
     /// Tell the program's version.
@@ -42,7 +44,27 @@ pub fn form_of<'a>(words: &'a [&'a str]) -> Option<Form<'a>>
         },
         [word] if *word == "--help" => Some(Form::Help),
         [word] if *word == "--version" => Some(Form::Version),
-        _ => session_of(words),
+        _ => longer_form_of(words),
+    }
+}
+
+/// The form of words that ask for a session of a client or for a mirror, if they do.
+fn longer_form_of<'a>(words: &'a [&'a str]) -> Option<Form<'a>>
+    ensures { LongerRule (map (λ word. word.now) words.now) result }
+{
+    match session_of(words) {
+        Some(form) => Some(form),
+        None => mirror_of(words),
+    }
+}
+
+/// The form of words that ask for a mirror of two images, if they do.
+fn mirror_of<'a>(words: &'a [&'a str]) -> Option<Form<'a>>
+    ensures { MirrorRule (map (λ word. word.now) words.now) result }
+{
+    match words {
+        [verb, a, b] if *verb == "mirror" && *a != *b => Some(Form::Mirror(*a, *b)),
+        _ => None,
     }
 }
 

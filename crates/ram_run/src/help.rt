@@ -25,6 +25,9 @@ pub const HELP: &[u8] = b"ram_drive: a DVD-RAM drive that hides dead blocks, ove
                          serve the disc to a client of the NBD protocol, on
                          standard input and output; each FAULT is a word such as
                          'fail 40', 'wear 40 2' or 'cut 9 torn', as below
+  ram_drive mirror IMAGE IMAGE
+                         answer a script for two discs that have the same
+                         sectors: its lines are those of a mirror, as below
   ram_drive --help       print this text
   ram_drive --version    print the version
 
@@ -59,6 +62,18 @@ After power the first command is told of it (check 6/29/00) in place of being
 done, unless it is INQUIRY, REQUEST SENSE, GET CONFIGURATION or GET EVENT STATUS
 NOTIFICATION. A new disc has to be formatted before it has sectors, like this:
   cdb 041100000000 hex 000000080000013000000800
+
+A script for a mirror has press, power and comments as above, and these lines;
+side a has the first image, side b the second, and one of them leads:
+  format                 format both sides fully
+  read L N               read N sectors, 1 to 1024, from sector L on
+  write L N fill XX      write as many, each byte XX; or count XX or hex HEX, as
+                         for cdb
+  resync                 copy to the other side what it may lack, and mend the
+                         side that leads
+  lead                   tell which side leads
+  lead a                 side a leads from the next power on; or b
+  a fail BLOCK           the line fail, wear or cut for side a; or b
 
 The exit status: 0 done, 1 a check said no, 2 other words than these, 3 a line
 is not in the script language, or it or the script is too long, or a client does

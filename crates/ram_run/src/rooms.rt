@@ -2,9 +2,11 @@
 ghost use Rattle.std.specs.Prelude.{◌≡◌, ◌+◌, ◌≤◌, IfOk, IsOk, map};
 ghost use Rattle.model_geometry.specs.declared.kinds.LayoutKind.TheVariants.{OneGroup};
 ghost use Rattle.ram_run.specs.Words.{IsNbd};
-ghost use Rattle.ram_run.specs.Rooms.{AreOfScript, AreOfNumber, AreOfCertificate, AreOfSession, AreRoomsFor, NeedNoRooms};
+ghost use Rattle.ram_run.specs.Rooms.{AreOfScript, AreOfNumber, AreOfCertificate, AreOfSession, AreOfMirror, AreRoomsFor, NeedNoRooms};
 ghost use Rattle.ram_serve.specs.Rooms.{AreReadyToServe};
 ghost use Rattle.ram_serve.specs.declared.rooms.TheConstants.{SESSION_MEMORY};
+ghost use Rattle.ram_mirrored.specs.Rooms.{AreReadyToMirror};
+ghost use Rattle.ram_mirrored.specs.declared.rooms.TheConstants.{MIRRORED_MEMORY};
 ghost use Rattle.ram_certificate.specs.Rooms.{AreReadyToTell};
 ghost use Rattle.ram_certificate.specs.declared.rooms.TheConstants.{CERTIFICATE_MEMORY};
 ghost use Rattle.ram_summary.specs.Rooms.{AreReadyFor};
@@ -16,6 +18,7 @@ ghost use Rattle.ram_summary.specs.declared.rooms.TheConstants.{GENERATE_MEMORY}
 use crate::form::{Form, form_of};
 use ram_bytes::{Budget, MemoryRefused};
 use ram_certificate::{CERTIFICATE_MEMORY, CertificateRooms};
+use ram_mirrored::{MIRRORED_MEMORY, MirroredRooms};
 use ram_script::ScriptRooms;
 use ram_serve::{SESSION_MEMORY, SessionRooms};
 use ram_summary::{GENERATE_MEMORY, GenerateRooms};
@@ -25,11 +28,12 @@ use ram_zones::LayoutKind;
 pub const MOST_BYTES: usize = SESSION_MEMORY;
 
 /// How many bytes the rooms ask for: those for the lines of a script, those for one that is drawn from a number, those for a
-/// certificate, those for a session of a client, and any.
+/// certificate, those for a mirror, those for a session of a client, and any.
 pub fn limits_of_rooms_are_these()
     ensures script { SCRIPT_MEMORY ≡ 7011716 }
     ensures generate { GENERATE_MEMORY ≡ 7080517 }
     ensures certificate { CERTIFICATE_MEMORY ≡ 3138783 }
+    ensures mirror { MIRRORED_MEMORY ≡ 6470370 }
     ensures session { SESSION_MEMORY ≡ 38263978 }
     ensures most { MOST_BYTES ≡ 38263978 }
 {}
@@ -47,6 +51,8 @@ pub enum Rooms {
     Certificate(CertificateRooms),
     /// Those for a session of a client.
     Session(SessionRooms),
+    /// Those for a mirror.
+    Mirror(MirroredRooms),
 }
 
 impl Rooms {
@@ -55,9 +61,9 @@ impl Rooms {
     /// # Answers
     ///
     /// - `Ok`: the rooms that the words ask for. (`AreRoomsFor`)
-    /// - `Script`, `Generate`, `Certificate`, `Session`, `None`: those for the lines of a script, those for a script from a number,
-    ///   those for a certificate, those for a session of a client, or none. (`AreOfScript`, `AreOfNumber`, `AreOfCertificate`,
-    ///   `AreOfSession`)
+    /// - `Script`, `Generate`, `Certificate`, `Session`, `Mirror`, `None`: those for the lines of a script, those for a script from a
+    ///   number, those for a certificate, those for a session of a client, those for a mirror, or none. (`AreOfScript`, `AreOfNumber`,
+    ///   `AreOfCertificate`, `AreOfSession`, `AreOfMirror`)
     /// - `Err`: the system refused memory that was asked for within the budget. (clause)
     pub fn new(budget: &mut Budget, words: &[&str]) -> Result<Rooms, MemoryRefused>
         requires free { GENERATE_MEMORY ≤ budget.old }
@@ -76,6 +82,7 @@ impl Rooms {
             Some(Form::Nbd(_, _)) => {
                 Ok(Rooms::Session(SessionRooms::new(budget, LayoutKind::OneGroup)?))
             }
+            Some(Form::Mirror(_, _)) => Ok(Rooms::Mirror(MirroredRooms::new(budget)?)),
             Some(Form::Help | Form::Version) | None => Ok(Rooms::None),
         }
     }
@@ -88,9 +95,11 @@ pub fn of_script(rooms: Rooms, kind: LayoutKind) -> ScriptRooms
 {
     match rooms {
         Rooms::Script(rooms) => rooms,
-        Rooms::None | Rooms::Generate(_) | Rooms::Certificate(_) | Rooms::Session(_) => {
-            unreachable!()
-        },
+        Rooms::None
+        | Rooms::Generate(_)
+        | Rooms::Certificate(_)
+        | Rooms::Session(_)
+        | Rooms::Mirror(_) => unreachable!(),
     }
 }
 
@@ -101,9 +110,11 @@ pub fn of_number(rooms: Rooms) -> GenerateRooms
 {
     match rooms {
         Rooms::Generate(rooms) => rooms,
-        Rooms::None | Rooms::Script(_) | Rooms::Certificate(_) | Rooms::Session(_) => {
-            unreachable!()
-        },
+        Rooms::None
+        | Rooms::Script(_)
+        | Rooms::Certificate(_)
+        | Rooms::Session(_)
+        | Rooms::Mirror(_) => unreachable!(),
     }
 }
 
@@ -114,7 +125,11 @@ pub fn of_certificate(rooms: Rooms) -> CertificateRooms
 {
     match rooms {
         Rooms::Certificate(rooms) => rooms,
-        Rooms::None | Rooms::Script(_) | Rooms::Generate(_) | Rooms::Session(_) => unreachable!(),
+        Rooms::None
+        | Rooms::Script(_)
+        | Rooms::Generate(_)
+        | Rooms::Session(_)
+        | Rooms::Mirror(_) => unreachable!(),
     }
 }
 
@@ -125,8 +140,25 @@ pub fn of_session(rooms: Rooms) -> SessionRooms
 {
     match rooms {
         Rooms::Session(rooms) => rooms,
-        Rooms::None | Rooms::Script(_) | Rooms::Generate(_) | Rooms::Certificate(_) => {
-            unreachable!()
-        }
+        Rooms::None
+        | Rooms::Script(_)
+        | Rooms::Generate(_)
+        | Rooms::Certificate(_)
+        | Rooms::Mirror(_) => unreachable!(),
+    }
+}
+
+/// The rooms for a mirror.
+pub fn of_mirror(rooms: Rooms) -> MirroredRooms
+    requires { AreOfMirror rooms }
+    ensures { AreReadyToMirror result }
+{
+    match rooms {
+        Rooms::Mirror(rooms) => rooms,
+        Rooms::None
+        | Rooms::Script(_)
+        | Rooms::Generate(_)
+        | Rooms::Certificate(_)
+        | Rooms::Session(_) => unreachable!(),
     }
 }

@@ -14,12 +14,13 @@ ghost use Rattle.ram_run.specs.Promises.{Promises};
 
 use crate::form::{Form, form_of};
 use crate::help::{HELP, VERSION};
-use crate::rooms::{Rooms, of_certificate, of_number, of_script, of_session};
+use crate::rooms::{Rooms, of_certificate, of_mirror, of_number, of_script, of_session};
 use ram_cache::Cached;
 use ram_certificate::{audit_image, check_image};
 use ram_client::serve_image;
 use ram_image::ImageMedium;
 use ram_machine::status::Status;
+use ram_mirrored::mirror_images;
 use ram_outside::{Conversation, Opened, Opener};
 use ram_script::serve::serve;
 use ram_script::{ScriptRooms, write_text};
@@ -30,8 +31,9 @@ use ram_volume::Volume;
 /// Runs the words of the program: `run IMAGE` answers the script over the image of that name, and reports every answer; `groups IMAGE`
 /// does the same for discs with a group of spares in each zone; `generate IMAGE N` answers the script that is drawn from the number N,
 /// and tells how often each answer came; `audit IMAGE` tells what an image holds, and `check IMAGE` compares such a text with it;
-/// `nbd IMAGE [FAULT]...` serves the disc in the image to a client of the NBD protocol; `--help` and `--version` tell of the program. The
-/// rooms are those that the words ask for; no more memory is taken.
+/// `nbd IMAGE [FAULT]...` serves the disc in the image to a client of the NBD protocol; `mirror IMAGE IMAGE` answers a script for a mirror
+/// of the discs in two images; `--help` and `--version` tell of the program. The rooms are those that the words ask for; no more memory is
+/// taken.
 ///
 /// # Answers
 ///
@@ -75,6 +77,11 @@ use ram_volume::Volume;
 /// greeting, or in a request, which has no reply. `SourceFault`: each whole message that came was answered. `SinkFault`: all answers but
 /// the newest are written. `Differs`, `Usage`, `NoMemory`, `NotADisc` never come.
 ///
+/// Of `mirror IMAGE IMAGE` (`RunsMirror`). `Done`, `Script`, `NotADisc`: as for `run IMAGE`, where a line other than `press` needs two discs
+/// of one geometry; both images are as the lines leave them. `ImageFault`: the opener or an image counted a failure; then not both images
+/// were opened, or no line was begun, or all answers are written, and each image that failed has the bytes right after the first of its
+/// calls that failed. `SourceFault`, `SinkFault`: as for `run IMAGE`. `Differs`, `Usage`, `NoMemory` never come.
+///
 /// Of `--help` and `--version` (`TellsText`). `Done`: the text is written. `SinkFault`: a beginning of it is. Nothing is opened or
 /// read.
 pub fn run<T: Conversation, O: Opener>(
@@ -104,6 +111,7 @@ pub fn run<T: Conversation, O: Opener>(
         Some(Form::Nbd(name, faults)) => {
             serve_image(of_session(rooms), name, faults, talk, opener)
         }
+        Some(Form::Mirror(a, b)) => mirror_images(of_mirror(rooms), a, b, talk, opener),
         Some(Form::Help) => {
             drop(rooms);
             write_text(talk.report_mut(), HELP)

@@ -4,7 +4,7 @@ use Rattle.std.proofs.lemmas.Bool.{false≢true}
 use Rattle.std.proofs.lemmas.Slice.Eq.{bytes_eq-Decides}
 use Rattle.ram_run.specs.Words.{seed_of}
 use Rattle.ram_run.proofs.Few.{map_of_one, map_of_two, map_of_three, by_number, not_served}
-use Rattle.ram_run.proofs.Sessions.{session_form}
+use Rattle.ram_run.proofs.Sessions.{longer_form}
 use Rattle.ram_run.proofs.form.form_of.Goals.{in_default-via-then-words-lt1, in_default-via-in-len1-2+else-eq-2, in_default-via-in-len2-4+else-eq-6, in_default-via-in-len3+else-eq-7, in_default-via-else-words-lt1+else-words-lt2+else-words-lt3+else-words-lt4}
 use Rattle.ram_run.proofs.form.form_of.Goals as goal
 
@@ -59,19 +59,19 @@ nothing = record { ref_ptr = (0, 0); now = [] }
 pub returns-in_default : goal.returns-in_default
 returns-in_default c =
     let head : List ℕ = (get_or c.args.words.now 0 nothing).now in
-    session_form _ c.session_of.result c.session_of.ensures (elim c.in_default.branch [
-      | in_default-via-then-words-lt1 w ↦ λ nbd form. by_number c.args.words.now nothing refl form (λ kind n is. search rules) (λ n is. search rules) (λ n is. search rules) (λ n is. search rules) (λ n is. search rules) (λ n is. search rules) nbd
-      | in_default-via-in-len1-2+else-eq-2 w ↦ λ nbd form. by_number c.args.words.now nothing refl form (λ kind n is. absurd (omega (arith, n, w.in-len1.len_below))) (λ n is. absurd (omega (arith, n, w.in-len1.len_below)))
+    longer_form _ c.longer_form_of.result c.longer_form_of.ensures (elim c.in_default.branch [
+      | in_default-via-then-words-lt1 w ↦ λ nbd mirror form. by_number c.args.words.now nothing refl form (λ kind n is. search rules) (λ n is. search rules) (λ n is. search rules) (λ n is. search rules) (λ n is. search rules) (λ n is. search rules) nbd mirror
+      | in_default-via-in-len1-2+else-eq-2 w ↦ λ nbd mirror form. by_number c.args.words.now nothing refl form (λ kind n is. absurd (omega (arith, n, w.in-len1.len_below))) (λ n is. absurd (omega (arith, n, w.in-len1.len_below)))
           (λ n is. false≢true (sym w.if-eq.false ∙ w.eq.ensures ∙ (bytes_eq-Decides head (45 ∷ 45 ∷ 104 ∷ 101 ∷ 108 ∷ 112 ∷ [])).1 is))
           (λ n is. false≢true (sym w.if-eq-2.false ∙ w.eq-then-words-lt2.ensures ∙ (bytes_eq-Decides head (45 ∷ 45 ∷ 118 ∷ 101 ∷ 114 ∷ 115 ∷ 105 ∷ 111 ∷ 110 ∷ [])).1 is))
-          (λ n is. absurd (omega (arith, n, w.in-len1.len_below))) (λ n is. absurd (omega (arith, n, w.in-len1.len_below))) nbd
-      | in_default-via-in-len2-4+else-eq-6 w ↦ λ nbd form. by_number c.args.words.now nothing refl form (λ kind n is. not_served head (λ e. false≢true (sym w.if-eq-3.false ∙ w.eq-then-words-lt3.ensures ∙ (bytes_eq-Decides head (114 ∷ 117 ∷ 110 ∷ [])).1 e))
+          (λ n is. absurd (omega (arith, n, w.in-len1.len_below))) (λ n is. absurd (omega (arith, n, w.in-len1.len_below))) nbd mirror
+      | in_default-via-in-len2-4+else-eq-6 w ↦ λ nbd mirror form. by_number c.args.words.now nothing refl form (λ kind n is. not_served head (λ e. false≢true (sym w.if-eq-3.false ∙ w.eq-then-words-lt3.ensures ∙ (bytes_eq-Decides head (114 ∷ 117 ∷ 110 ∷ [])).1 e))
           (λ e. false≢true (sym w.if-eq-4.false ∙ w.eq-then-words-lt3-2.ensures ∙ (bytes_eq-Decides head (103 ∷ 114 ∷ 111 ∷ 117 ∷ 112 ∷ 115 ∷ [])).1 e)) kind is)
           (λ n is. absurd (omega (arith, n, w.in-len2.len_below))) (λ n is. absurd (omega (arith, n, w.in-len2.len_at_least))) (λ n is. absurd (omega (arith, n, w.in-len2.len_at_least)))
           (λ n is. false≢true (sym w.if-eq-5.false ∙ w.eq-then-words-lt3-3.ensures ∙ (bytes_eq-Decides head (97 ∷ 117 ∷ 100 ∷ 105 ∷ 116 ∷ [])).1 is))
-          (λ n is. false≢true (sym w.if-eq-6.false ∙ w.eq-then-words-lt3-4.ensures ∙ (bytes_eq-Decides head (99 ∷ 104 ∷ 101 ∷ 99 ∷ 107 ∷ [])).1 is)) nbd
-      | in_default-via-in-len3+else-eq-7 w ↦ λ nbd form. by_number c.args.words.now nothing refl form (λ kind n is. absurd (omega (arith, n, w.in-len3.len_at_least)))
+          (λ n is. false≢true (sym w.if-eq-6.false ∙ w.eq-then-words-lt3-4.ensures ∙ (bytes_eq-Decides head (99 ∷ 104 ∷ 101 ∷ 99 ∷ 107 ∷ [])).1 is)) nbd mirror
+      | in_default-via-in-len3+else-eq-7 w ↦ λ nbd mirror form. by_number c.args.words.now nothing refl form (λ kind n is. absurd (omega (arith, n, w.in-len3.len_at_least)))
           (λ n is. false≢true (sym w.if-eq-7.false ∙ w.eq-then-words-lt4.ensures ∙ (bytes_eq-Decides head (103 ∷ 101 ∷ 110 ∷ 101 ∷ 114 ∷ 97 ∷ 116 ∷ 101 ∷ [])).1 is))
-          (λ n is. absurd (omega (arith, n, w.in-len3.len_at_least))) (λ n is. absurd (omega (arith, n, w.in-len3.len_at_least))) (λ n is. absurd (omega (arith, n, w.in-len3.len_at_least))) (λ n is. absurd (omega (arith, n, w.in-len3.len_at_least))) nbd
-      | in_default-via-else-words-lt1+else-words-lt2+else-words-lt3+else-words-lt4 w ↦ λ nbd form. by_number c.args.words.now nothing refl form (λ kind n is. search rules) (λ n is. search rules) (λ n is. search rules) (λ n is. search rules) (λ n is. search rules) (λ n is. search rules) nbd
+          (λ n is. absurd (omega (arith, n, w.in-len3.len_at_least))) (λ n is. absurd (omega (arith, n, w.in-len3.len_at_least))) (λ n is. absurd (omega (arith, n, w.in-len3.len_at_least))) (λ n is. absurd (omega (arith, n, w.in-len3.len_at_least))) nbd mirror
+      | in_default-via-else-words-lt1+else-words-lt2+else-words-lt3+else-words-lt4 w ↦ λ nbd mirror form. by_number c.args.words.now nothing refl form (λ kind n is. search rules) (λ n is. search rules) (λ n is. search rules) (λ n is. search rules) (λ n is. search rules) (λ n is. search rules) nbd mirror
     ])

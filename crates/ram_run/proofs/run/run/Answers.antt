@@ -6,8 +6,8 @@ use Rattle.ram_script.proofs.Completes.{completes}
 use Rattle.ram_summary.specs.Generating.{beside}
 use Rattle.ram_machine.specs.declared.status.Status.TheVariants as statuses
 use Rattle.ram_client.proofs.Statuses.{session_of_run, session_counts}
-use Rattle.ram_run.specs.Words.{IsServedOf, IsGenerateOf, IsAuditOf, IsCheckOf, AsksForSession, IsHelp, IsVersion}
-use Rattle.ram_run.proofs.Promised.{text_counts, of_none, of_help, of_version, of_script, of_drawn, of_audit, of_check, of_client}
+use Rattle.ram_run.specs.Words.{IsServedOf, IsGenerateOf, IsAuditOf, IsCheckOf, AsksForSession, IsMirrorOf, IsHelp, IsVersion}
+use Rattle.ram_run.proofs.Promised.{text_counts, of_none, of_help, of_version, of_script, of_drawn, of_audit, of_check, of_client, of_mirror}
 use Rattle.ram_run.proofs.PromisedByRun.{promised_by_run}
 use Rattle.ram_run.proofs.Heard.{heard_of, around_with, promised_around}
 use Rattle.ram_run.proofs.run.run.Goals as goal
@@ -183,4 +183,22 @@ returns-in-Some-Nbd g c =
           (session_of_run c.serve_image.result ran.other)
           (session_counts before.counts after.counts c.serve_image.result (ran.keeps told.faults told.read).counts)
           c.in-Some-Nbd.name.now _ told ran.keeps;
+    }
+
+pub of_mirror-requires : goal.of_mirror-requires
+of_mirror-requires g c =
+    let texts : List (List ℕ) = map (λ (word : Bor (List ℕ)). word.now) c.args.words.now in
+    let told : IsMirrorOf c.in-Some-Mirror.a.now c.in-Some-Mirror.b.now texts = rw (c.in-Some-Mirror.is, c.in-Some-Mirror.field-0-is) at c.form_of.ensures in
+    c.requires.rooms.mirror (c.in-Some-Mirror.a.now, c.in-Some-Mirror.b.now, told)
+
+pub returns-in-Some-Mirror : goal.returns-in-Some-Mirror
+returns-in-Some-Mirror g c =
+    let texts : List (List ℕ) = map (λ (word : Bor (List ℕ)). word.now) c.args.words.now in
+    let told : IsMirrorOf c.in-Some-Mirror.a.now c.in-Some-Mirror.b.now texts = rw (c.in-Some-Mirror.is, c.in-Some-Mirror.field-0-is) at c.form_of.ensures in
+    let before = around g.T.Conversation g.T.Sink.Sink g.O.Opener c.args.talk.now c.args.opener.now in
+    let after = around g.T.Conversation g.T.Sink.Sink g.O.Opener c.mirror_images.new.talk c.mirror_images.new.opener in
+    let ran = c.mirror_images.ensures in
+    record {
+      keeps = of_mirror g.O.Image.Image.bytes g.O.Image.Image.past g.O.Opener.returned_known before after c.mirror_images.result texts
+          ran.other ran.causes c.in-Some-Mirror.a.now c.in-Some-Mirror.b.now told ran.keeps;
     }

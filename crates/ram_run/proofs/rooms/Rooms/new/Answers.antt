@@ -1,6 +1,6 @@
 use Rattle.std.specs.Borrow.{Bor}
 use Rattle.std.proofs.Common.{inl, inr, ℕ, List, map}
-use Rattle.ram_run.specs.Words.{IsServedOf, IsGenerateOf, IsAuditOf, IsCheckOf, AsksForSession}
+use Rattle.ram_run.specs.Words.{IsServedOf, IsGenerateOf, IsAuditOf, IsCheckOf, AsksForSession, IsMirrorOf}
 use Rattle.ram_run.proofs.rooms.Rooms.new.Goals as goal
 
 pub returns-in_err-new-in-Some-Run-clause-none : goal.returns-in_err-new-in-Some-Run-clause-none
@@ -64,3 +64,15 @@ returns-in_ok-new-in-Some-Generate-clause-none c = λ need.
     let texts : List (List ℕ) = map (λ (word : Bor (List ℕ)). word.now) c.args.words.now in
     let told : IsGenerateOf c.in-Some-Generate.field-0-0.now c.in-Some-Generate.field-0-1 texts = rw c.in-Some-Generate.field-0-is at c.in-Some-Generate.ensures in
     absurd (need.generate (c.in-Some-Generate.field-0-0.now, c.in-Some-Generate.field-0-1, told))
+
+pub returns-in_err-new-in-Some-Mirror-clause-none : goal.returns-in_err-new-in-Some-Mirror-clause-none
+returns-in_err-new-in-Some-Mirror-clause-none c = λ need.
+    let texts : List (List ℕ) = map (λ (word : Bor (List ℕ)). word.now) c.args.words.now in
+    let told : IsMirrorOf c.in-Some-Mirror.field-0-0.now c.in-Some-Mirror.field-0-1.now texts = rw c.in-Some-Mirror.field-0-is at c.in-Some-Mirror.ensures in
+    absurd (need.mirror (c.in-Some-Mirror.field-0-0.now, c.in-Some-Mirror.field-0-1.now, told))
+
+pub returns-in_ok-new-in-Some-Mirror-clause-none : goal.returns-in_ok-new-in-Some-Mirror-clause-none
+returns-in_ok-new-in-Some-Mirror-clause-none c = λ need.
+    let texts : List (List ℕ) = map (λ (word : Bor (List ℕ)). word.now) c.args.words.now in
+    let told : IsMirrorOf c.in-Some-Mirror.field-0-0.now c.in-Some-Mirror.field-0-1.now texts = rw c.in-Some-Mirror.field-0-is at c.in-Some-Mirror.ensures in
+    absurd (need.mirror (c.in-Some-Mirror.field-0-0.now, c.in-Some-Mirror.field-0-1.now, told))
