@@ -5,18 +5,13 @@ from __future__ import annotations
 import os
 import random
 import signal
-import unittest
 from pathlib import Path
 
 from dvdram import Ended, NoLine
 from dvdram.mirror import SIDES, Mirror, line_of
-from dvdram.sides import has_mirror
 from support import (DISK, FILES, NBD, PROGRAM, FolderTest, Mount, Server, children_of, done, is_copied,
                      needs, random_bytes, run_script)
 from test_served import CUT, READ, WROTE, Client, refusal
-
-unless_mirror = unittest.skipUnless(PROGRAM.exists() and has_mirror([str(PROGRAM)]),
-                                    "the program has no word for a mirror")
 
 IMAGES = "image=one.img", "image2=two.img"
 TURNED = "image=two.img", "image2=one.img"
@@ -84,7 +79,6 @@ def new_mirror(renew_at: int) -> Mirror:
     return Mirror([str(PROGRAM)], ("one.img", "two.img"), resyncs=True, renew_at=renew_at)
 
 
-@unless_mirror
 class Mirrored(FolderTest):
     """A mirror over nbdkit."""
 
@@ -191,7 +185,6 @@ ROUNDS = (  # the order of the images, the side that leads, the one that is lost
 )
 
 
-@unless_mirror
 class FileSystems(FolderTest):
     """File systems on a mirror: in each round the sides are made alike, and one is lost in the middle of a
     write."""

@@ -3,7 +3,6 @@ are seen to belong together."""
 from __future__ import annotations
 
 import os
-import subprocess
 from dataclasses import dataclass, replace
 
 from . import NoDisc, Wrong
@@ -39,18 +38,10 @@ def ready_drive(words: SidesParameters, program: list[str]) -> Drive:
     if not words.image2:
         prepare(words, program)
         return Drive(program, words.image, words.kind)
-    if not has_mirror(program):
-        raise Wrong(f"image2={words.image2}: {program[0]} has no word for a mirror")
     old = prepare_sides(words, program)
     see_pair(words, program)
     lead = lead_of(words, program)
     return Mirror(program, (words.image, words.image2), resyncs=old in ([], [lead]))
-
-
-def has_mirror(program: list[str]) -> bool:
-    """Whether the program can run a mirror, by its own help."""
-    told = subprocess.run([*program, "--help"], stdin=subprocess.DEVNULL, stdout=subprocess.PIPE, check=False)
-    return b"mirror IMAGE IMAGE" in told.stdout
 
 
 def prepare_sides(words: SidesParameters, program: list[str]) -> list[str]:
