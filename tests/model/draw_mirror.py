@@ -6,7 +6,7 @@ from typing import List
 
 from .drive import Drive
 from .lists import SECTORS_IN_BLOCK
-from .medium import Geometry, Medium
+from .medium import SECTOR, Geometry, Medium
 from .mirror import Record
 
 FATES = ("old", "new", "torn")
@@ -28,6 +28,7 @@ class MirrorScript:
         begin = [] if pressed else [press, "power", "format"]
         lines = begin + ["power"] * (self.random.random() < 0.8)
         lines += [self.line() for _ in range(self.random.randint(4, 24))]
+        lines += [self.no_form(), self.line()] if self.random.random() < 0.05 else []
         return "".join(f"{line}\n" for line in lines).encode("ascii")
 
     def line(self) -> str:
@@ -62,7 +63,10 @@ class MirrorScript:
         return f"read {self.request()}"
 
     def write(self) -> str:
-        kind = self.random.choice(["fill", "count"])
+        kind = self.random.choice(["fill", "fill", "count", "count", "hex"])
+        if kind == "hex":
+            first = self.request().split(" ", maxsplit=1)[0]
+            return f"write {first} 1 hex {self.random.getrandbits(8 * SECTOR):0{2 * SECTOR}x}"
         return f"write {self.request()} {kind} {self.random.randrange(256):02x}"
 
     def cut(self) -> str:
@@ -79,3 +83,8 @@ class MirrorScript:
         """A line that says nothing, or refuses."""
         lines: List[str] = ["", "# a comment", "press 0 1 4", "a fail 99999", f"read {2 ** 32 - 1} 2"]
         return self.random.choice(lines)
+
+    def no_form(self) -> str:
+        """A line that is none of the language, and ends the run."""
+        return self.random.choice(["tick", "fail 3", "c fail 3", "a cut 0 old", "lead c", "read 0 0",
+                                   "read 0 1025", "write 0 1 hex 00", "press 1 1", "read 0 1 2"])
