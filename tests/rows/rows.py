@@ -26,22 +26,26 @@ class Ran:
     report: str
     status: int
     image: bytes
+    twin: bytes
 
 
 class Program:
-    """The program, run in a folder of its own over the image `disc`."""
+    """The program, run in a folder of its own over the image `disc`, and for a mirror over `twin` too."""
 
     def __init__(self, path: Path, folder: Path) -> None:
-        self.path, self.disc = path, folder / "disc"
+        self.path, self.disc, self.twin = path, folder / "disc", folder / "twin"
 
-    def run(self, words: List[str], script: bytes, image: bytes) -> Ran:
+    def run(self, words: List[str], script: bytes, image: bytes, twin: bytes = b"") -> Ran:
         self.disc.write_bytes(image)
+        self.twin.write_bytes(twin)
         done = subprocess.run([self.path, *words], input=script, stdout=subprocess.PIPE, cwd=self.disc.parent,
                               stderr=subprocess.DEVNULL, check=False)
-        return Ran(done.stdout.decode("ascii"), done.returncode, self.disc.read_bytes())
+        return Ran(done.stdout.decode("ascii"), done.returncode, self.disc.read_bytes(),
+                   self.twin.read_bytes())
 
-    def answer(self, script: bytes, image: bytes, word: str = "run") -> Ran:
-        return self.run([word, "disc"], script, image)
+    def answer(self, script: bytes, image: bytes, word: str = "run", twin: bytes = b"") -> Ran:
+        names = {"mirror": ["disc", "twin"], "turned": ["twin", "disc"]}.get(word, ["disc"])
+        return self.run(["mirror" if word == "turned" else word, *names], script, image, twin)
 
 
 def in_full(line: str) -> str:
@@ -73,6 +77,7 @@ def spans(texts: List[str]) -> Iterator[Tuple[int, int, str]]:
 class Row:
     """A row, as far as its lines came."""
     image: bytearray = field(default_factory=bytearray)
+    twin: bytes = b""
     script: str = ""
     begun: bool = False
     word: str = "run"
@@ -124,28 +129,31 @@ class Row:
         if self.comments:
             script = COMMENT * -(-self.comments // len(COMMENT))
             return program.answer(script[: self.comments], b"")
-        return program.answer(self.script.encode("utf-8"), bytes(self.image), self.word)
+        return self.over(program, self.script)
 
-    def told(self, program: Program) -> Tuple[List[str], bytes]:
-        """What is told of the row, and the image that it leaves."""
+    def over(self, program: Program, script: str) -> Ran:
+        """A run of this script over the images of the row."""
+        return program.answer(script.encode("utf-8"), bytes(self.image), self.word, self.twin)
+
+    def told(self, program: Program) -> Tuple[List[str], Tuple[bytes, bytes]]:
+        """What is told of the row, and the images that it leaves."""
         if self.cuts:
-            return list(self.told_cuts(program)), b""
+            return list(self.told_cuts(program)), (b"", b"")
         if self.lengths:
-            return list(self.told_lengths(program)), b""
+            return list(self.told_lengths(program)), (b"", b"")
         ran = self.ran(program)
         lines = ran.report.splitlines()
         lines = lines[: self.first] if self.first is not None else lines
         lines = lines[max(0, len(lines) - self.last):] if self.last is not None else lines
         lines.append(f"exit status {ran.status}")
-        return lines + (list(images.told(self.image, ran.image)) if self.tells_image else []), ran.image
+        lines += images.told(self.image, ran.image) if self.tells_image else []
+        return lines, (ran.image, ran.twin)
 
     def told_cuts(self, program: Program) -> Iterator[str]:
         before, _, behind = self.script.partition("cut each\n")
         for fate in FATES:
             scripts = (f"{before}cut {use} {fate}\n{behind}" for use in range(1, self.cuts + 1))
-            reports = (program.answer(script.encode("ascii"), bytes(self.image), self.word).report
-                       for script in scripts)
-            texts = [answers_behind(report) for report in reports]
+            texts = [answers_behind(self.over(program, script).report) for script in scripts]
             for first, last, text in spans(texts):
                 uses = f"{first}" if first == last else f"{first} to {last}"
                 yield f"{fate} {uses}: {text}"
@@ -174,6 +182,7 @@ ORDERS: Dict[str, Callable[[Row, str], None]] = {
     "groups": lambda row, rest: setattr(row, "word", "groups"),
     "audit": lambda row, rest: row.begin(word="audit"),
     "check": lambda row, rest: row.begin(word="check"),
+    "mirror": lambda row, rest: setattr(row, "word", rest or "mirror"),
     "words": lambda row, rest: row.begin(words=rest.split("|")),
     "lengths": lambda row, rest: row.begin(lengths=int(rest)),
     "cuts": lambda row, rest: setattr(row, "cuts", int(rest)),
@@ -191,9 +200,9 @@ def told_of(text: str, program: Program) -> Iterator[str]:
         if line is not None and title is None:
             row.add(line)
         if row.begun and (alone or line is None or title is not None):
-            lines, left = row.told(program)
+            lines, (image, twin) = row.told(program)
             yield from lines
-            row = Row(image=bytearray(left))
+            row = Row(image=bytearray(image), twin=twin, word=row.word if alone else "run")
         if title is not None:
             alone = title.startswith("each")
             row = row if title.startswith("then") else Row()
