@@ -18,8 +18,8 @@ class MirrorScript:
     def __init__(self, random: Random, geometry: Geometry) -> None:
         self.random = random
         self.geometry = geometry
-        records = Record(Drive(Medium(bytearray(geometry.blank()), geometry))).blocks
-        self.blocks = [*records, *geometry.list_blocks, *geometry.data_blocks[:12]]
+        self.records = Record(Drive(Medium(bytearray(geometry.blank()), geometry))).blocks
+        self.blocks = [*self.records, *geometry.list_blocks, *geometry.data_blocks[:12]]
 
     def draw(self, pressed: bool) -> bytes:
         """A script: the discs are made first, unless they are there."""
@@ -27,7 +27,8 @@ class MirrorScript:
         press = f"press {geometry.zones} {geometry.scale} {geometry.spares}"
         begin = [] if pressed else [press, "power", "format"]
         lines = begin + ["power"] * (self.random.random() < 0.8)
-        lines += [self.line() for _ in range(self.random.randint(4, 24))]
+        for _ in range(self.random.randint(4, 24)):
+            lines += [self.line()] if self.random.random() < 0.95 else self.scene()
         lines += [self.no_form(), self.line()] if self.random.random() < 0.05 else []
         return "".join(f"{line}\n" for line in lines).encode("ascii")
 
@@ -35,6 +36,32 @@ class MirrorScript:
         kinds = {self.power: 20, self.write: 26, self.read: 20, self.resync: 7, self.format: 3, self.lead: 4,
                  self.give: 1, self.cut: 14, self.fail: 7, self.wear: 2, self.strange: 1}
         return self.random.choices(list(kinds), list(kinds.values()))[0]()
+
+    def scene(self) -> List[str]:
+        """Lines that seldom come one after another."""
+        return self.random.choice([self.lost_home, self.lost_spares, self.lost_record])()
+
+    def lost_home(self) -> List[str]:
+        """A block dies in one side while both have the same bytes."""
+        at = self.random.randrange(3)
+        home = self.geometry.data_blocks[self.geometry.spares:][at:at + 1]
+        fails = [f"{self.side()} fail {block}" for block in home]
+        read = f"read {SECTORS_IN_BLOCK * at} {self.random.choice([1, SECTORS_IN_BLOCK])}"
+        return ["resync", *fails, read, "resync", read, self.power(), read]
+
+    def lost_spares(self) -> List[str]:
+        """One side has no spare, and cannot write a block."""
+        side, spares = self.side(), self.geometry.spares
+        home = self.geometry.data_blocks[spares:spares + 3][-1]
+        fails = [f"{side} fail {block}" for block in [*self.geometry.data_blocks[:spares], home]]
+        return ["resync", *fails, self.write(), "write 0 48 count 10", self.cut(), "read 0 48", "resync"]
+
+    def lost_record(self) -> List[str]:
+        """The record of a side is lost, and the lead is given by hand."""
+        side = self.side()
+        fails = [f"{side} fail {block}" for block in self.records]
+        later = [self.write(), self.cut(), self.write(), "power"]
+        return [*fails, "power", self.give(), "power", "lead", *later]
 
     def side(self) -> str:
         return self.random.choice("ab")
