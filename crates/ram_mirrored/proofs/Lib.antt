@@ -1,3 +1,4 @@
 pub mod StatesTold
 pub mod Counted
 pub mod Closing
+pub mod MirrorLeads

@@ -4,6 +4,7 @@
 //! a mirror stands for, is said in `ram_pair`; how lines are answered one after another, and when a report ends, in `ram_answers`.
 #![tactic(auto)]
 
+pub mod laws;
 mod rooms;
 mod running;
 

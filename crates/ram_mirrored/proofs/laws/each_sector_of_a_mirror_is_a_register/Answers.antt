@@ -1,0 +1,5 @@
+use Rattle.ram_mirrored.proofs.MirrorLeads.{power_tells}
+use Rattle.ram_mirrored.proofs.laws.each_sector_of_a_mirror_is_a_register.Goals as goal
+
+pub returns : goal.returns
+returns c = λ first heard a b old new status stands. absurd ?
