@@ -2,3 +2,5 @@ pub mod StatesTold
 pub mod Counted
 pub mod Closing
 pub mod MirrorLeads
+pub mod MirrorSectors
+pub mod MirrorTurns

@@ -1,3 +1,5 @@
+use Rattle.ram_mirrored.proofs.MirrorTurns.{when_off}
+use Rattle.ram_mirrored.proofs.MirrorSectors.{has_sectors}
 use Rattle.ram_mirrored.proofs.MirrorLeads.{power_tells}
 use Rattle.ram_mirrored.proofs.laws.each_sector_of_a_mirror_is_a_register.Goals as goal
 
