@@ -4,3 +4,4 @@ pub mod Closing
 pub mod MirrorLeads
 pub mod MirrorSectors
 pub mod MirrorTurns
+pub mod MirrorCalls

@@ -50,6 +50,13 @@ abbrev pub LeftBy : (stopped : Bool) → Standing → Standing → Type 0
 LeftBy true s t = Off (candidates s) ≡ t
 LeftBy false s t = s ≡ t
 
+-- where a write went, the sectors are the disc's
+abbrev pub LiesFor : (old : MirrorShown) (lba n : ℕ) (payload : List ℕ) → WriteOut → Type 0
+LiesFor old lba n payload writes.NotFormatted = Unit {0}
+LiesFor old lba n payload (writes.Range capacity) = Unit {0}
+LiesFor old lba n payload writes.Off = Unit {0}
+LiesFor old lba n payload _ = (disc : List ℕ) → MayBe old (On disc) → LiesIn disc lba n payload
+
 module _ (at : ℕ) (old new : MirrorShown) (r : MirrorRegister) where
   -- from each thing that it may stand for before
   pub moved : (Steps : Standing → Standing → Type 0) → Leads old new Steps → (x : MirrorRegister)
@@ -130,7 +137,7 @@ module _ (at : ℕ) (old new : MirrorShown) (r : MirrorRegister) where
           ∙ ap Some (sym (sector_among disc lba n at from past) ∙ ap (λ (b : List ℕ). bytes_of_sector lba b at) (sym step.0))
       shown_in whole from past (Off discs) t step = absurd step
 
-      read_turn : (out : ReadOut) → length bytes ≡ 2048 * n → Leads old new (λ s t. ReadStep (λ x. x ≡ t) s lba n bytes out) → Turned at new (λ after. AfterRead at r lba n bytes (read_told lba out) after)
+      pub read_turn : (out : ReadOut) → length bytes ≡ 2048 * n → Leads old new (λ s t. ReadStep (λ x. x ≡ t) s lba n bytes out) → Turned at new (λ after. AfterRead at r lba n bytes (read_told lba out) after)
       read_turn reads.Good whole leads =
           to (λ after. AfterRead at r lba n bytes (read_told lba reads.Good) after) r (refl, record { whole = whole; shown = shown }, refl) refl
           (moved (λ s t. ReadStep (λ x. x ≡ t) s lba n bytes reads.Good) leads r (λ lost s t may step was. fits_same lost at s t r (good_left s t step) was) both)
@@ -151,7 +158,7 @@ module _ (at : ℕ) (old new : MirrorShown) (r : MirrorRegister) where
       read_turn reads.Fault whole leads = to (λ after. after ≡ gone r) (gone r) refl refl (moved (λ s t. ReadStep (λ x. x ≡ t) s lba n bytes reads.Fault) leads (gone r) (λ lost s t may step was. fits_off lost at s t r (fault_left s t step) was) both)
 
     -- ---- a resynchronisation
-    resync_turn : (out : Resync) → Leads old new (λ s t. ResyncStep (λ x. x ≡ t) s out) → Turned at new (λ after. AfterResync r (resync_told out) after)
+    pub resync_turn : (out : Resync) → Leads old new (λ s t. ResyncStep (λ x. x ≡ t) s out) → Turned at new (λ after. AfterResync r (resync_told out) after)
     resync_turn (resyncs.Done count) leads = to (λ after. after ≡ r) r refl refl (moved (λ s t. ResyncStep (λ x. x ≡ t) s (resyncs.Done count)) leads r (λ lost s t may step was. fits_same lost at s t r (done s t step) was) both)
       where
         done : (s t : Standing) → ResyncStep (λ x. x ≡ t) s (resyncs.Done count) → s ≡ t
@@ -221,7 +228,7 @@ module _ (at : ℕ) (old new : MirrorShown) (r : MirrorRegister) where
     cut_fits lost disc t was (inr (inr is)) = subst (λ (x : Standing). Fits lost at x (gone (or_else r (Bytes (zeros 2048))))) is
         (fits_two lost at [] (zero_disc old.lead.shape) (or_else r (Bytes (zeros 2048))) (fall_short lost at (zeros 2048 ∷ falls_under lost r.falls) [] short_zeros) (zeros_fall lost old.lead.shape))
 
-    format_turn : (out : FormatOut) → Leads old new (FormatTo out) → Turned at new (λ after. AfterFormat r (format_told out) after)
+    pub format_turn : (out : FormatOut) → Leads old new (FormatTo out) → Turned at new (λ after. AfterFormat r (format_told out) after)
     format_turn formats.Good leads = good_format leads
     format_turn (formats.TooMany found) leads = to (λ after. after ≡ emptied r) (emptied r) refl refl (moved (FormatTo (formats.TooMany found)) leads (emptied r) each both)
       where
@@ -261,13 +268,6 @@ module _ (at : ℕ) (old new : MirrorShown) (r : MirrorRegister) where
       abbrev WriteTo : WriteOut → Standing → Standing → Type 0
       WriteTo out s t = WriteStep new.lead (λ x. x ≡ t) s lba n payload out
 
-      -- where it wrote, the sectors are the disc's
-      abbrev LiesFor : WriteOut → Type 0
-      LiesFor writes.NotFormatted = Unit {0}
-      LiesFor (writes.Range capacity) = Unit {0}
-      LiesFor writes.Off = Unit {0}
-      LiesFor _ = (disc : List ℕ) → MayBe old (On disc) → LiesIn disc lba n payload
-
       -- what leaves the sector
       write_bare : (s t : Standing) → WriteTo writes.NotFormatted s t → s ≡ t
       write_bare (On disc) t step = step.1
@@ -293,7 +293,7 @@ module _ (at : ℕ) (old new : MirrorShown) (r : MirrorRegister) where
         beside_cut lost disc t b c lies was is = subst (λ (x : Standing). Fits lost at x (gone r)) is
             (fits_two lost at (replaced disc lba payload b) (replaced disc lba payload c) r (unreached lost at lba n payload disc r lies was b (aside b)).falls (unreached lost at lba n payload disc r lies was c (aside c)).falls)
 
-        beside_turn : (out : WriteOut) → LiesFor out → Leads old new (WriteTo out) → Turned at new (λ after. AfterOther r (write_told out) after)
+        beside_turn : (out : WriteOut) → LiesFor old lba n payload out → Leads old new (WriteTo out) → Turned at new (λ after. AfterOther r (write_told out) after)
         beside_turn writes.Good lies leads = to (λ after. after ≡ r) r refl refl (moved (WriteTo writes.Good) leads r each both)
           where
             each : (lost : List ℕ) (s t : Standing) → MayBe old s → WriteTo writes.Good s t → Fits lost at s r → Fits lost at t r
@@ -357,7 +357,7 @@ module _ (at : ℕ) (old new : MirrorShown) (r : MirrorRegister) where
         same_led true = refl
         same_led false = refl
 
-        write_turn : (out : WriteOut) → LiesFor out → Leads old new (WriteTo out) → Turned at new (λ after. AfterWrite at r (bytes_of_sector lba payload at) (write_told out) after)
+        write_turn : (out : WriteOut) → LiesFor old lba n payload out → Leads old new (WriteTo out) → Turned at new (λ after. AfterWrite at r (bytes_of_sector lba payload at) (write_told out) after)
         write_turn writes.Good lies leads = to (λ after. after ≡ settled r new_value) (settled r new_value) refl refl (moved (WriteTo writes.Good) leads (settled r new_value) each both)
           where
             each : (lost : List ℕ) (s t : Standing) → MayBe old s → WriteTo writes.Good s t → Fits lost at s r → Fits lost at t (settled r new_value)
@@ -398,7 +398,7 @@ module _ (at : ℕ) (old new : MirrorShown) (r : MirrorRegister) where
             each lost (On disc) t may step was = cut_either lost disc t (block_with lba + step.block) (block_with lba + (step.block + 1)) (lies disc may) was step.either
             each lost (Off discs) t may step was = absurd step
 
-      any_write : (out : WriteOut) → LiesFor out → Leads old new (WriteTo out)
+      pub any_write : (out : WriteOut) → LiesFor old lba n payload out → Leads old new (WriteTo out)
           → Turned at new (λ after. MatchBool (is_sector_among lba n at) (AfterWrite at r (bytes_of_sector lba payload at) (write_told out) after) (AfterOther r (write_told out) after))
       any_write out lies leads = go (is_sector_among lba n at) refl
         where

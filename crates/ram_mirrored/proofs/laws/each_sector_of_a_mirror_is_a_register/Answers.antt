@@ -1,3 +1,4 @@
+use Rattle.ram_mirrored.proofs.MirrorCalls.{write_called}
 use Rattle.ram_mirrored.proofs.MirrorTurns.{when_off}
 use Rattle.ram_mirrored.proofs.MirrorSectors.{has_sectors}
 use Rattle.ram_mirrored.proofs.MirrorLeads.{power_tells}
