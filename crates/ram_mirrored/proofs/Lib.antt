@@ -5,3 +5,4 @@ pub mod MirrorLeads
 pub mod MirrorSectors
 pub mod MirrorTurns
 pub mod MirrorCalls
+pub mod MirrorPowered
