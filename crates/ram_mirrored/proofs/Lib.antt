@@ -6,3 +6,4 @@ pub mod MirrorSectors
 pub mod MirrorTurns
 pub mod MirrorCalls
 pub mod MirrorPowered
+pub mod MirrorControls
