@@ -7,3 +7,4 @@ pub mod MirrorTurns
 pub mod MirrorCalls
 pub mod MirrorPowered
 pub mod MirrorControls
+pub mod MirrorOpens

@@ -1,3 +1,4 @@
+use Rattle.ram_mirrored.proofs.MirrorOpens.{press_turn}
 use Rattle.ram_mirrored.proofs.MirrorControls.{cut_called}
 use Rattle.ram_mirrored.proofs.MirrorPowered.{give_called}
 use Rattle.ram_mirrored.proofs.MirrorCalls.{write_called}
