@@ -8,3 +8,4 @@ pub mod MirrorCalls
 pub mod MirrorPowered
 pub mod MirrorControls
 pub mod MirrorOpens
+pub mod MirrorPromised
