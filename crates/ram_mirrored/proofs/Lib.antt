@@ -9,3 +9,4 @@ pub mod MirrorPowered
 pub mod MirrorControls
 pub mod MirrorOpens
 pub mod MirrorPromised
+pub mod MirrorStays
