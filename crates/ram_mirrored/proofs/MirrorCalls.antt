@@ -1,7 +1,6 @@
 -- Each call of a mirror that reads or writes, and the register of a sector.
-use Rattle.std.specs.Prelude.{◌≡◌, ℕ, ◌*◌, ◌⊎◌, Bool, true, false, MatchBool, List, length}
-use Rattle.std.proofs.Common.{refl, sym, ap, ◌∙◌, inl, inr, subst}
-use Rattle.model_sectors.specs.Discs.{On}
+use Rattle.std.specs.Prelude.{◌≡◌, ℕ, ◌*◌, Bool, true, false, MatchBool, List, length}
+use Rattle.std.proofs.Common.{refl, sym, ◌∙◌, inl, inr, subst}
 use Rattle.model_sectors.specs.declared.ReadOut.{ReadOut}
 use Rattle.model_sectors.specs.declared.ReadOut.TheVariants as reads
 use Rattle.model_drive.specs.declared.WriteOut.{WriteOut}
@@ -19,7 +18,6 @@ use Rattle.model_mirror.proofs.WriteSteps.{lies_in_range}
 use Rattle.ram_report.specs.declared.printing.MirrorEvent.{MirrorEvent}
 use Rattle.ram_machine.specs.SectorBytes.{bytes_of_sector, is_sector_among}
 use Rattle.ram_pair.specs.Told.{read_told, write_told, format_told, resync_told}
-use Rattle.ram_pair.specs.PairStates.{MayBe}
 use Rattle.ram_pair.specs.PairLines.{ReadCall, WriteCall, FormatCall, ResyncCall}
 use Rattle.ram_mirrored.specs.MirrorRegister.{MirrorRegister, AfterRead, AfterWrite, AfterOther, AfterFormat, AfterResync}
 use Rattle.ram_mirrored.proofs.MirrorLeads.{read_known, write_known, format_known, resync_known}
@@ -94,9 +92,9 @@ module _ (at : ℕ) (old new : MirrorShown) (r : MirrorRegister) (was : MatchesM
       (by_known (λ after. AfterRead at r lba n bytes (read_told lba call.out) after)
       (λ known led held. read_turn at old new r led (read_known old new lba n call.out call.cause ∙ known) held lba n bytes call.out call.whole call.step)
       (λ known led none.
-          let off = when_off at old new r (ReadsWithSides old new lba n call.out) ((call.out ≡ reads.Off) × (new ≡ old)) old.on none.off call.cause in
-          left_off (λ after. AfterRead at r lba n bytes (read_told lba call.out) after)
-          (subst (λ (o : ReadOut). AfterRead at r lba n bytes (read_told lba o) r) (sym off.0) refl) off.1))
+      let off = when_off at old new r (ReadsWithSides old new lba n call.out) ((call.out ≡ reads.Off) × (new ≡ old)) old.on none.off call.cause in
+      left_off (λ after. AfterRead at r lba n bytes (read_told lba call.out) after)
+      (subst (λ (o : ReadOut). AfterRead at r lba n bytes (read_told lba o) r) (sym off.0) refl) off.1))
 
   pub resync_called : (told : MirrorEvent) → ResyncCall old new told → Turned at new (λ after. AfterResync r told after)
   resync_called told call =
@@ -104,9 +102,9 @@ module _ (at : ℕ) (old new : MirrorShown) (r : MirrorRegister) (was : MatchesM
       (by_known (λ after. AfterResync r (resync_told call.out) after)
       (λ known led held. resync_turn at old new r led (resync_known old new call.out call.cause ∙ known) held call.out call.step)
       (λ known led none.
-          let off = when_off at old new r (ResyncsOn old new call.out) ((call.out ≡ resyncs.Off) × (new ≡ old)) old.on none.off call.cause in
-          left_off (λ after. AfterResync r (resync_told call.out) after)
-          (subst (λ (o : Resync). AfterResync r (resync_told o) r) (sym off.0) refl) off.1))
+      let off = when_off at old new r (ResyncsOn old new call.out) ((call.out ≡ resyncs.Off) × (new ≡ old)) old.on none.off call.cause in
+      left_off (λ after. AfterResync r (resync_told call.out) after)
+      (subst (λ (o : Resync). AfterResync r (resync_told o) r) (sym off.0) refl) off.1))
 
   pub format_called : (told : MirrorEvent) → FormatCall old new told → Turned at new (λ after. AfterFormat r told after)
   format_called told call =
@@ -114,9 +112,9 @@ module _ (at : ℕ) (old new : MirrorShown) (r : MirrorRegister) (was : MatchesM
       (by_known (λ after. AfterFormat r (format_told call.out) after)
       (λ known led held. format_turn at old new r led (format_known old new call.out call.cause ∙ known) held call.out call.step)
       (λ known led none.
-          let off = when_off at old new r (FormatsOn old new call.out) ((call.out ≡ formats.Off) × (new ≡ old)) old.on none.off call.cause in
-          left_off (λ after. AfterFormat r (format_told call.out) after)
-          (subst (λ (o : FormatOut). AfterFormat r (format_told o) r) (sym off.0) refl) off.1))
+      let off = when_off at old new r (FormatsOn old new call.out) ((call.out ≡ formats.Off) × (new ≡ old)) old.on none.off call.cause in
+      left_off (λ after. AfterFormat r (format_told call.out) after)
+      (subst (λ (o : FormatOut). AfterFormat r (format_told o) r) (sym off.0) refl) off.1))
 
   module _ (lba n : ℕ) (payload : List ℕ) (whole : length payload ≡ 2048 * n) where
     lies_for : (out : WriteOut) → MirrorWriteCause old new lba n out → LiesFor old lba n payload out
@@ -144,6 +142,6 @@ module _ (at : ℕ) (old new : MirrorShown) (r : MirrorRegister) (was : MatchesM
         (by_known (λ after. Wrote (write_told call.out) after)
         (λ known led held. any_write at old new r led (write_known old new lba n call.out call.cause ∙ known) held lba n payload call.out (lies_for call.out call.cause) call.step)
         (λ known led none.
-            let off = when_off at old new r (WritesWithSides old new lba n call.out) ((call.out ≡ writes.Off) × (new ≡ old)) old.on none.off call.cause in
-            left_off (λ after. Wrote (write_told call.out) after)
-            (subst (λ (o : WriteOut). Wrote (write_told o) r) (sym off.0) (off_wrote (is_sector_among lba n at))) off.1))
+        let off = when_off at old new r (WritesWithSides old new lba n call.out) ((call.out ≡ writes.Off) × (new ≡ old)) old.on none.off call.cause in
+        left_off (λ after. Wrote (write_told call.out) after)
+        (subst (λ (o : WriteOut). Wrote (write_told o) r) (sym off.0) (off_wrote (is_sector_among lba n at))) off.1))

@@ -1,8 +1,8 @@
 -- A block of a side that fails or is worn, and a cut that is armed: the register of a sector is left.
-use Rattle.std.specs.Prelude.{◌≡◌, ◌≢◌, ℕ, ◌⊎◌, Bool, true, false, if◌then◌else◌, List, set}
+use Rattle.std.specs.Prelude.{◌≡◌, ◌≢◌, ℕ, Bool, true, false, if◌then◌else◌, List}
 use Rattle.std.proofs.Common.{refl, sym, ap, ◌∙◌, inl, inr, subst}
 use Rattle.model_geometry.specs.Geometry.{total}
-use Rattle.model_medium.specs.Cells.{Cell, Dead, IsSameOrDead, cell_at}
+use Rattle.model_medium.specs.Cells.{Cell, Dead, cell_at}
 use Rattle.model_medium.specs.World.{World}
 use Rattle.model_medium.specs.Machine.{Machine}
 use Rattle.model_medium.specs.declared.Fate.{Fate}
@@ -10,7 +10,7 @@ use Rattle.model_medium.specs.declared.WornBlock.{WornBlock}
 use Rattle.model_medium.proofs.CellFacts.{cell_at-set_other, cell_at-set_dead}
 use Rattle.model_sectors.specs.Discs.{Standing, On, Off}
 use Rattle.model_drive.specs.Shown.{Shown, StandsFor, cells_in}
-use Rattle.model_drive.specs.Parts.{AreSameOrDead, OnlyDies}
+use Rattle.model_drive.specs.Parts.{AreSameOrDead}
 use Rattle.model_drive.proofs.Dying.{one_dies, same_on, same_candidates}
 use Rattle.model_mirror.specs.Shown.{MirrorShown}
 use Rattle.ram_medium.specs.Control.{WearRule, with_armed_cut}
@@ -26,7 +26,7 @@ use Rattle.ram_pair.specs.Told.{one_cut, fail_told}
 use Rattle.ram_pair.specs.PairStates.{side_a, side_b}
 use Rattle.ram_pair.specs.PairLines.{side_of, with_side, KeepsAll, FailCall, WearCall, CutCall}
 use Rattle.ram_mirrored.specs.MirrorRegister.{MirrorRegister}
-use Rattle.ram_mirrored.proofs.MirrorSectors.{Held, HeldBoth, SideFalls, SidesFall, NobodyHolds, MatchesMirror, Turned, match_led, match_none}
+use Rattle.ram_mirrored.proofs.MirrorSectors.{Held, SideFalls, SidesFall, MatchesMirror, Turned, match_led, match_none}
 use Rattle.ram_mirrored.proofs.MirrorCalls.{by_known}
 
 -- ---- a side whose cells die, or that is armed, stands for the same

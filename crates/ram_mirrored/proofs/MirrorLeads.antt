@@ -18,14 +18,13 @@ use Rattle.model_mirror.specs.declared.MirrorPowerOut.{MirrorPowerOut}
 use Rattle.model_mirror.specs.declared.MirrorPowerOut.TheVariants as outs
 use Rattle.model_mirror.specs.declared.Resync.{Resync}
 use Rattle.model_mirror.specs.declared.Resync.TheVariants as resyncs
-use Rattle.model_mirror.specs.Leading.{floor_of}
 use Rattle.model_mirror.specs.Table.{is_apart}
-use Rattle.model_mirror.specs.Shown.{MirrorShown, may_lead, stands_in, exchanged, mirror_turned_off, led_by}
-use Rattle.model_mirror.specs.Taking.{LeadRaises, OtherRaises, IsTaken, IsNotTaken, CannotTake}
+use Rattle.model_mirror.specs.Shown.{MirrorShown, may_lead, stands_in, exchanged, led_by}
+use Rattle.model_mirror.specs.Taking.{OtherRaises, IsTaken, IsNotTaken, CannotTake}
 use Rattle.model_mirror.specs.Reads.{MirrorReadCause, ReadsWithSides, ReadsLed, MirrorReadsPart, MirrorReadsParts, EndsPart, AsksOther, after_lone_read}
 use Rattle.model_mirror.specs.Writes.{MirrorWriteCause, WritesWithSides, WritesLed, OtherEnds, OtherWrites, LeadRefuses, after_lone_write}
 use Rattle.model_mirror.specs.Whole.{MirrorFormatCause, FormatsOn, ResyncCause, ResyncsOn, CopyEnds, CopyGoesOn, CopiesBlock, MendEnds, MendGoesOn, MendsBlock, MendsLack, GoesThrough, GoesThroughBlocks, CopyStopped}
-use Rattle.model_mirror.specs.Powers.{MirrorPowerCause, WakesBoth, NobodyLeads, LeadStops, Finishes, RaisesFirst, Follows, GoesOn, Leads, Starts, is_to_lead, goes_before, is_read, can_tell, still_tells, stays_on, stop_of}
+use Rattle.model_mirror.specs.Powers.{MirrorPowerCause, NobodyLeads, LeadStops, Finishes, RaisesFirst, Follows, GoesOn, Leads, Starts, is_to_lead, goes_before, is_read, can_tell, still_tells, stays_on, stop_of}
 
 -- it is as known as before
 abbrev pub SameKnown : MirrorShown → MirrorShown → Type 0

@@ -1,5 +1,5 @@
 -- The register of a sector when two images were opened, and when two discs were pressed.
-use Rattle.std.specs.Prelude.{◌≡◌, ℕ, ◌+◌, ◌-◌, ◌*◌, ◌%◌, ◌<◌, ◌≤◌, ◌⊎◌, Bool, true, false, if◌then◌else◌, None, Some, Ok, List, [], ◌∷◌, length, map, take, drop, replicate}
+use Rattle.std.specs.Prelude.{◌≡◌, ℕ, ◌+◌, ◌-◌, ◌*◌, ◌%◌, ◌<◌, ◌⊎◌, Bool, true, false, if◌then◌else◌, None, Ok, List, [], ◌∷◌, length, map, take, drop, replicate}
 use Rattle.std.specs.List.{Contains}
 use Rattle.std.proofs.Common.{arith, refl, sym, ap, ◌∙◌, inl, inr, subst}
 use Rattle.std.proofs.lemmas.Bool.{cases_lt}
@@ -21,22 +21,21 @@ use Rattle.model_sectors.proofs.Pieces.{piece_of_piece}
 use Rattle.model_volume.specs.Covers.{Cover}
 use Rattle.model_volume.specs.Starts.{Found, IsFound, disc_under}
 use Rattle.model_drive.specs.Shown.{Shown, StandsFor}
-use Rattle.model_drive.specs.Runs.{opened_drive}
 use Rattle.model_cache.proofs.Members.{Contains-none, Contains-first, Contains-later, Contains-cases}
 use Rattle.ram_report.specs.declared.printing.Event.TheVariants as events
 use Rattle.ram_report.specs.declared.printing.MirrorEvent.{MirrorEvent}
 use Rattle.ram_report.specs.declared.printing.MirrorEvent.TheVariants as mirrors
 use Rattle.ram_machine.specs.SectorBytes.{bytes_of_sector}
-use Rattle.ram_machine.specs.Register.{Value, Bytes, Lost, MayHold}
+use Rattle.ram_machine.specs.Register.{Value, MayHold}
 use Rattle.ram_machine.proofs.SectorValues.{bytes_under, falls_under}
 use Rattle.ram_machine.proofs.SectorFilled.{filled, filled_under, filled_long, filled_cover}
 use Rattle.ram_machine.proofs.SectorOpened.{place_fits, value_in, falls_of, filled_sector}
 use Rattle.ram_machine.proofs.SectorBoth.{one_lost, other_lost}
 use Rattle.ram_pair.specs.declared.told.Told.TheVariants as told
-use Rattle.ram_pair.specs.PairStates.{TwoImages, Mirrored, PairState, Unpaired, Paired, side_a, side_b, ShowsOpened, IsNewMirror, IsFirstPair, pressed_images, IsPressedPair}
+use Rattle.ram_pair.specs.PairStates.{TwoImages, Mirrored, PairState, Unpaired, Paired, side_a, side_b, ShowsOpened, IsFirstPair, IsPressedPair}
 use Rattle.ram_pair.specs.PairSteps.{PressPair}
 use Rattle.ram_mirrored.specs.MirrorRegister.{MirrorRegister, AfterPress, IsMirrorOpened}
-use Rattle.ram_mirrored.proofs.MirrorSectors.{FallTo, SideFalls, SidesFall, NobodyHolds, MatchesMirror, match_none, both_values, in_first, in_second}
+use Rattle.ram_mirrored.proofs.MirrorSectors.{FallTo, SideFalls, SidesFall, MatchesMirror, match_none, both_values, in_first, in_second}
 
 -- the register goes with a state; of images that are no discs nothing is known, and no line can be answered but a press
 abbrev pub MatchesPair : (at : ℕ) → PairState → MirrorRegister → Type 0

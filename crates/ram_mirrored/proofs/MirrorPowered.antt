@@ -1,5 +1,5 @@
 -- The power on of a mirror, who leads it, and the register of a sector.
-use Rattle.std.specs.Prelude.{◌≡◌, ℕ, ◌+◌, ◌*◌, ◌<◌, ◌≤◌, ◌⊎◌, Bool, true, false, not, if◌then◌else◌, MatchBool, Option, None, Some, List, [], ◌∷◌, length}
+use Rattle.std.specs.Prelude.{◌≡◌, ℕ, ◌+◌, ◌*◌, ◌<◌, ◌⊎◌, Bool, true, false, not, if◌then◌else◌, MatchBool, Option, None, List, [], ◌∷◌, length}
 use Rattle.std.specs.List.{Contains}
 use Rattle.std.proofs.Common.{arith, refl, sym, ap, ◌∙◌, inl, inr, subst}
 use Rattle.std.proofs.lemmas.Bool.{cases_lt}
@@ -10,7 +10,7 @@ use Rattle.model_sectors.specs.Discs.{Standing, On, Off, sectors_of, candidates}
 use Rattle.model_sectors.specs.declared.PowerOut.{PowerOut}
 use Rattle.model_sectors.specs.declared.PowerOut.TheVariants as powers
 use Rattle.model_drive.specs.Shown.{Shown, StandsFor, IsFirstUnder, cells_in}
-use Rattle.model_drive.specs.Power.{PowerStep, FindsDisc}
+use Rattle.model_drive.specs.Power.{PowerStep}
 use Rattle.model_drive.specs.declared.RecordOut.{RecordOut}
 use Rattle.model_drive.specs.declared.RecordOut.TheVariants as records
 use Rattle.model_cache.proofs.Members.{Contains-none, Contains-first, Contains-later, Contains-cases}
@@ -18,11 +18,9 @@ use Rattle.model_mirror.specs.declared.MirrorPowerOut.{MirrorPowerOut}
 use Rattle.model_mirror.specs.declared.MirrorPowerOut.TheVariants as outs
 use Rattle.model_mirror.specs.declared.GiveOut.{GiveOut}
 use Rattle.model_mirror.specs.declared.GiveOut.TheVariants as gives
-use Rattle.model_mirror.specs.Leading.{floor_of}
 use Rattle.model_mirror.specs.Shown.{MirrorShown, turned}
-use Rattle.model_mirror.specs.Taking.{LeadRaises}
-use Rattle.model_mirror.specs.Standing.{StandsSomehow, LeadIsIdle}
-use Rattle.model_mirror.specs.Giving.{is_to_turn, IsNotGiven, Gives, GiveStep, GiveStepOf, leader_as}
+use Rattle.model_mirror.specs.Standing.{StandsSomehow}
+use Rattle.model_mirror.specs.Giving.{is_to_turn, IsNotGiven, Gives, GiveStepOf, leader_as}
 use Rattle.model_mirror.specs.Powers.{FindsMounted, StandsMounted, MirrorPowerStep, LeadPowerStep, once_off, on_or_off, of_lead}
 use Rattle.ram_report.specs.declared.printing.MirrorEvent.{MirrorEvent}
 use Rattle.ram_machine.specs.Register.{Value, Bytes, Lost}
@@ -33,8 +31,7 @@ use Rattle.ram_pair.specs.PairStates.{side_a, side_b, MayBe}
 use Rattle.ram_pair.specs.PairLines.{PowerCall, LeadCall, GiveCall}
 use Rattle.ram_mirrored.specs.MirrorRegister.{MirrorRegister, settled, gone, emptied, led_on, LeadsAnew, AfterPower, AfterLead, AfterGiven}
 use Rattle.ram_mirrored.proofs.MirrorLeads.{SameKnown, Tells, PowerTells, power_tells}
-use Rattle.ram_mirrored.proofs.MirrorSectors.{FallTo, Fits, Held, HeldBoth, SideFalls, SidesFall, NobodyHolds, MatchesMirror, Turned, match_led, match_none, KnowsAll, by_one, by_other, values_of, falls_to_own, both_values, in_first, in_second, found_some, found_none, fall_short}
-use Rattle.ram_mirrored.proofs.MirrorTurns.{unchanged}
+use Rattle.ram_mirrored.proofs.MirrorSectors.{FallTo, Fits, Held, HeldBoth, SideFalls, SidesFall, NobodyHolds, MatchesMirror, Turned, match_led, match_none, by_one, by_other, values_of, falls_to_own, both_values, in_first, in_second, found_some, found_none, fall_short}
 use Rattle.ram_mirrored.proofs.MirrorCalls.{by_known, left_off}
 
 -- ---- the sides of a mirror

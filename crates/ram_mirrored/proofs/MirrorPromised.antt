@@ -1,5 +1,5 @@
 -- The promise of a run of a mirror: each line turns the register of each sector, from what stands with each status.
-use Rattle.std.specs.Prelude.{◌≡◌, ◌≢◌, ℕ, suc, false, ◌+◌, ◌*◌, if◌then◌else◌, Option, None, Some, Ok, Err, List, [], ◌∷◌, ◌++◌, length, codes}
+use Rattle.std.specs.Prelude.{◌≡◌, ℕ, suc, false, ◌+◌, ◌*◌, if◌then◌else◌, Option, None, Some, Ok, Err, List, [], ◌∷◌, ◌++◌, length}
 use Rattle.std.proofs.Common.{refl, sym, ap, ◌∙◌, inl, inr, subst, append_assoc}
 use Rattle.std.proofs.lemmas.List.{append-nil}
 use Rattle.std.specs.List.{All}
@@ -20,18 +20,18 @@ use Rattle.ram_script.specs.RunCounts.{Counts}
 use Rattle.ram_script.specs.Promise.{last_words}
 use Rattle.ram_answers.specs.Texts as texts
 use Rattle.ram_answers.specs.Texts.{AnsweredText, TakesUpTo}
-use Rattle.ram_answers.specs.Reports.{Heard, IsToldInPart}
+use Rattle.ram_answers.specs.Reports.{Heard}
 use Rattle.ram_pair.specs.declared.told.Told.{Told}
 use Rattle.ram_pair.specs.declared.told.Told.TheVariants as told
-use Rattle.ram_pair.specs.Told.{PairOutcome, answered, image_failed, one_cut}
-use Rattle.ram_pair.specs.PairStates.{Mirrored, PairState, Unpaired, Paired, OneFailed, NoneFailed}
+use Rattle.ram_pair.specs.Told.{PairOutcome, image_failed}
+use Rattle.ram_pair.specs.PairStates.{Mirrored, PairState, Unpaired, Paired}
 use Rattle.ram_pair.specs.PairLines.{CallRule}
-use Rattle.ram_pair.specs.PairSteps.{MirrorStep, OnMirror, PairStep, ReadsStep, RawStep}
+use Rattle.ram_pair.specs.PairSteps.{MirrorStep, OnMirror, PairStep}
 use Rattle.ram_pair.specs.PairTexts.{told_text, is_answer, IsPairStep, PairRun}
 use Rattle.model_geometry.specs.Geometry.{shape_in}
 use Rattle.model_geometry.specs.declared.kinds.LayoutKind.TheVariants.{OneGroup}
-use Rattle.ram_mirrored.specs.MirrorRuns.{MirrorBeginning, StopsPair, MirrorSoFar, IsNeverBegun, EndsMirror, MirrorToldWith, MirrorStandsWith}
-use Rattle.ram_mirrored.specs.MirrorRegister.{MirrorRegister, AfterLine, MirrorTurn, MirrorTurns, MirrorAnswered, IsMirrorRegister}
+use Rattle.ram_mirrored.specs.MirrorRuns.{MirrorBeginning, MirrorSoFar, MirrorToldWith, MirrorStandsWith}
+use Rattle.ram_mirrored.specs.MirrorRegister.{MirrorRegister, AfterLine, MirrorTurn, MirrorTurns, MirrorAnswered}
 use Rattle.ram_mirrored.specs.MirrorPromise.{IsMirrorRead, text_of, texts_of, IsLostFailure, NoneIsLost, KeepsPair}
 use Rattle.ram_mirrored.proofs.MirrorSectors.{MatchesMirror, Turned}
 use Rattle.ram_mirrored.proofs.MirrorCalls.{read_called, write_called, format_called, resync_called}

@@ -1,5 +1,5 @@
 -- A register that goes with what a mirror stands for, whichever bytes a lost sector has, and what parts of a call leave of it.
-use Rattle.std.specs.Prelude.{◌≡◌, ℕ, ◌+◌, ◌-◌, ◌*◌, ◌<◌, ◌≤◌, ◌⊎◌, Bool, true, false, nat_lt, not, ◌&&◌, if◌then◌else◌, Option, None, Some, List, [], ◌∷◌, length, take, drop, replicate}
+use Rattle.std.specs.Prelude.{◌≡◌, ℕ, ◌+◌, ◌-◌, ◌*◌, ◌<◌, ◌≤◌, ◌⊎◌, Bool, true, false, nat_lt, not, ◌&&◌, Option, None, Some, List, [], ◌∷◌, length, take, drop, replicate}
 use Rattle.std.specs.List.{Contains}
 use Rattle.std.proofs.Common.{arith, refl, sym, ap, ◌∙◌, inl, inr, subst, length-take, length-drop}
 use Rattle.std.proofs.lemmas.Bool.{cases_lt, lt-ltb, le-ltb, true≢false}
@@ -12,12 +12,12 @@ use Rattle.model_cache.proofs.Members.{Contains-none, Contains-first, Contains-l
 use Rattle.model_mirror.specs.Shown.{MirrorShown}
 use Rattle.ram_machine.specs.SectorBytes.{bytes_of_sector, is_sector_among}
 use Rattle.ram_machine.specs.Register.{Value, Bytes, Lost}
-use Rattle.ram_machine.proofs.SectorValues.{bytes_under, now_under, falls_under, falls_to, has_bytes}
+use Rattle.ram_machine.proofs.SectorValues.{bytes_under, now_under, falls_under}
 use Rattle.ram_machine.proofs.SectorFilled.{filled_differ}
 use Rattle.ram_machine.proofs.SectorNow.{now_of, now_there, now_gone, now_same}
 use Rattle.ram_machine.proofs.SectorBoth.{one_lost, other_lost}
 use Rattle.ram_pair.specs.PairStates.{side_a, side_b, MayBe}
-use Rattle.ram_mirrored.specs.MirrorRegister.{MirrorRegister, settled, or_else, gone, emptied}
+use Rattle.ram_mirrored.specs.MirrorRegister.{MirrorRegister, settled, gone, emptied}
 
 -- what is there now
 abbrev pub now_at : (at : ℕ) → Standing → Option (List ℕ)

@@ -1,7 +1,7 @@
 -- What a mirror acknowledged stays, and is shown: from the register alone.
-use Rattle.std.specs.Prelude.{◌≡◌, ◌≢◌, ℕ, ◌*◌, ◌⊎◌, Bool, true, false, MatchBool, Option, None, Some, List, [], ◌∷◌, length}
+use Rattle.std.specs.Prelude.{◌≡◌, ◌≢◌, ℕ, ◌*◌, Bool, true, false, MatchBool, Option, None, Some, List, [], ◌∷◌, length}
 use Rattle.std.specs.List.{Contains}
-use Rattle.std.proofs.Common.{refl, sym, ap, ◌∙◌, inl, inr, subst}
+use Rattle.std.proofs.Common.{refl, sym, ◌∙◌, inl, inr, subst}
 use Rattle.model_cache.proofs.Members.{Contains-none, Contains-cases}
 use Rattle.ram_report.specs.declared.printing.Event.TheVariants as events
 use Rattle.ram_report.specs.declared.printing.MirrorEvent.{MirrorEvent}

@@ -4,7 +4,7 @@ use Rattle.std.specs.Prelude.{◌≡◌, ℕ, ◌+◌, ◌*◌, ◌<◌, ◌≤�
 use Rattle.std.proofs.Common.{arith, refl, sym, ap, ◌∙◌, inl, inr, subst}
 use Rattle.std.proofs.lemmas.Bool.{cases_lt, lt-ltb, le-ltb}
 use Rattle.model_geometry.specs.Geometry.{Shape}
-use Rattle.model_sectors.specs.Discs.{Standing, On, Off, sectors_of, replaced, zeros, candidates}
+use Rattle.model_sectors.specs.Discs.{Standing, On, Off, replaced, zeros, candidates}
 use Rattle.model_sectors.specs.Requests.{block_with, blocks_covered}
 use Rattle.model_sectors.specs.declared.ReadOut.{ReadOut}
 use Rattle.model_sectors.specs.declared.ReadOut.TheVariants as reads
@@ -17,8 +17,6 @@ use Rattle.model_drive.specs.declared.WriteOut.TheVariants as writes
 use Rattle.model_drive.specs.declared.FormatOut.{FormatOut}
 use Rattle.model_drive.specs.declared.FormatOut.TheVariants as formats
 use Rattle.model_drive.specs.declared.Kind.TheVariants as kinds
-use Rattle.model_drive.specs.Shown.{Shown}
-use Rattle.model_drive.specs.Parts.{IsInRange}
 use Rattle.model_drive.specs.Reads.{ReadStep}
 use Rattle.model_drive.specs.Writes.{WriteStep}
 use Rattle.model_drive.specs.Formats.{FormatStep}
@@ -28,11 +26,6 @@ use Rattle.model_mirror.specs.declared.Resync.{Resync}
 use Rattle.model_mirror.specs.declared.Resync.TheVariants as resyncs
 use Rattle.model_mirror.specs.Shown.{MirrorShown}
 use Rattle.model_mirror.specs.Steps.{ResyncStep}
-use Rattle.model_mirror.specs.Reads.{MirrorReadCause, ReadsWithSides}
-use Rattle.model_mirror.specs.Writes.{MirrorWriteCause, WritesWithSides, WritesLed, LeadWrites, write_is_stopped}
-use Rattle.model_mirror.specs.Whole.{MirrorFormatCause, FormatsOn, ResyncCause, ResyncsOn}
-use Rattle.model_mirror.proofs.WriteSteps.{lies_in_range}
-use Rattle.ram_report.specs.declared.printing.MirrorEvent.{MirrorEvent}
 use Rattle.ram_machine.specs.SectorBytes.{bytes_of_sector, is_sector_among}
 use Rattle.ram_machine.specs.Register.{Value, Bytes}
 use Rattle.ram_machine.proofs.SectorValues.{now_under, falls_under}
@@ -40,10 +33,9 @@ use Rattle.ram_machine.proofs.SectorNow.{now_there}
 use Rattle.ram_machine.proofs.SectorBoth.{one_lost, other_lost}
 use Rattle.ram_pair.specs.Told.{read_told, write_told, format_told, resync_told}
 use Rattle.ram_pair.specs.PairStates.{MayBe}
-use Rattle.ram_pair.specs.PairLines.{Leads, ReadCall, WriteCall, FormatCall, ResyncCall}
-use Rattle.ram_mirrored.specs.MirrorRegister.{MirrorRegister, settled, or_else, gone, emptied, Shows, written_before, AfterRead, AfterWrite, AfterOther, AfterFormat, AfterResync}
-use Rattle.ram_mirrored.proofs.MirrorLeads.{SameKnown, read_known, write_known, format_known, resync_known}
-use Rattle.ram_mirrored.proofs.MirrorSectors.{now_at, FallTo, Fits, Held, HeldBoth, NobodyHolds, HeldBy, MatchesMirror, Turned, match_led, shown_value, KnowsAll, by_one, by_other, fits_same, fits_off, found_some, found_none, fits_two, fall_more, fall_short, fall_one, unreached, reached, either, zeros_sector, is_among, is_beside, sector_among, has_sectors}
+use Rattle.ram_pair.specs.PairLines.{Leads}
+use Rattle.ram_mirrored.specs.MirrorRegister.{MirrorRegister, settled, or_else, gone, emptied, written_before, AfterRead, AfterWrite, AfterOther, AfterFormat, AfterResync}
+use Rattle.ram_mirrored.proofs.MirrorSectors.{now_at, FallTo, Fits, Held, HeldBoth, MatchesMirror, Turned, match_led, shown_value, KnowsAll, by_one, by_other, fits_same, fits_off, found_some, found_none, fits_two, fall_more, fall_short, fall_one, unreached, reached, either, zeros_sector, is_among, is_beside, sector_among, has_sectors}
 
 -- what a call leaves of what a mirror stood for that wrote nothing: the same; or its discs, where it was stopped
 abbrev pub LeftBy : (stopped : Bool) → Standing → Standing → Type 0
@@ -98,7 +90,6 @@ module _ (at : ℕ) (old new : MirrorShown) (r : MirrorRegister) where
     -- to a register that it is known of who leads
     pub to : (Rule : MirrorRegister → Type 0) (x : MirrorRegister) → Rule x → x.led ≡ r.led → HeldBoth at new x → Turned at new Rule
     to Rule x rule same held = record { after = x; rule = rule; matches = match_led at new x known (same ∙ led) held }
-
 
     -- ---- a read
     module _ (lba n : ℕ) (bytes : List ℕ) where

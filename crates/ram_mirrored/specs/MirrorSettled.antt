@@ -1,6 +1,6 @@
 -- That a sector of a mirror has some bytes, or nothing, over all lines that do not write it: for the laws of runs alone. (This project's
 -- own, as all here.)
-use Rattle.std.specs.Prelude.{◌≡◌, ◌≢◌, Bool, false, Some, List, [], ◌∷◌, ℕ}
+use Rattle.std.specs.Prelude.{◌≡◌, ◌≢◌, false, Some, List, [], ◌∷◌, ℕ}
 use Rattle.std.specs.List.{Contains}
 use Rattle.ram_report.specs.declared.printing.MirrorEvent.TheVariants as mirrors
 use Rattle.ram_text.specs.declared.mirror.MirrorLine.{MirrorLine}
