@@ -1,7 +1,8 @@
 //! A script is answered by a mirror of the discs in two images, from the images that are opened to the images that are closed.
 //!
-//! What to read: `specs/Running.antt` (what is promised), `specs/MirrorRuns.antt` (what stands with each status). What a line does, and what
-//! a mirror stands for, is said in `ram_pair`; how lines are answered one after another, and when a report ends, in `ram_answers`.
+//! What to read: `specs/Running.antt` (what is promised), `specs/MirrorRuns.antt` (what stands with each status), `specs/MirrorPromise.antt` and
+//! `specs/MirrorRegister.antt` (what a user may rely on by script and report alone). What a line does, and what a mirror stands for, is said in
+//! `ram_pair`; how lines are answered one after another, and when a report ends, in `ram_answers`.
 #![tactic(auto)]
 
 pub mod laws;
