@@ -17,6 +17,7 @@ use Rattle.ram_script.specs.RunCounts.{Counts, counts_of, OnlyImageRose}
 use Rattle.ram_mirrored.specs.MirrorRuns.{MirrorBeginning, MirrorToldWith, IsMirrorToldBy, EndsMirror, MirrorStandsWith}
 use Rattle.ram_mirrored.specs.Running.{IsMirrorBeginning, BeginsMirror, IsAskedForBoth, FailsToOpen, AsksForBoth, RunsMirror, heard_around}
 use Rattle.ram_mirrored.proofs.Counted.{counts_there, told_there}
+use Rattle.ram_mirrored.proofs.MirrorPromised.{mirror_promised, unopened_promised}
 
 -- the image that was handed back last is this one
 known_back : {I : Type 0} (knows : Bool) (returned : Option I) (image : I) → knows ≡ true → OnTrue knows (returned ≡ Some image) → returned ≡ Some image
@@ -35,12 +36,17 @@ asks_both knows old new a b statuses.Usage named = named
 asks_both knows old new a b statuses.NoMemory named = named
 
 module _ {I : Type 0} (bytes_of : I → Option (List ℕ)) (past_of : I → Option (List Moment)) (knows : Bool) (old new : Surroundings I) (a b : List ℕ) where
+  unwritten_by : FailsToOpen knows old new a b → new.written ≡ old.written
+  unwritten_by (inl one) = one.unopened.unwritten
+  unwritten_by (inr two) = two.unwritten
+
   -- not both images were opened, and nothing was asked of the source
   not_both : (unasked : new.asked ≡ old.asked) → FailsToOpen knows old new a b → RunsMirror bytes_of past_of knows old new statuses.ImageFault a b
   not_both unasked fails = record {
     asks = inr fails;
     run = λ first known. inr (refl, fails);
     talks = λ first known. added_none_of (IsMirrorToldBy first) old.asked new.asked unasked;
+    promise = λ first known. unopened_promised first (heard_around new) (unwritten_by fails ∙ known.begins.written_is);
     fails = λ known is. inr fails;
   }
 
@@ -173,6 +179,9 @@ module _ {I : Type 0} (bytes_of : I → Option (List ℕ)) (past_of : I → Opti
               (closes_b.same_asked ∙ closes_a.same_asked ∙ opens_b.asked ∙ ap (and_asked ReadWrite b) opens_a.asked);
           run = λ first known. inl (left_as first known);
           talks = λ first known. asks first (begun first known);
+          promise = λ first known.
+              mirror_promised first (heard_around new) (bytes_returned bytes_of new.opener.returned_before) (bytes_returned bytes_of new.opener.returned)
+              old.counts new.counts status (left_as first known);
           fails = λ known is. inl (record {
             a = after_a;
             b = after_b;

@@ -14,6 +14,7 @@ use Rattle.ram_script.specs.Around.{Surroundings, IsNotOpened}
 use Rattle.ram_script.specs.Opened.{bytes_returned}
 use Rattle.ram_script.specs.RunCounts.{Counts, counts_of}
 use Rattle.ram_answers.specs.Reports.{Heard}
+use Rattle.ram_mirrored.specs.MirrorPromise.{KeepsPair}
 use Rattle.ram_mirrored.specs.MirrorRuns.{MirrorBeginning, IsMirrorToldBy, MirrorStandsWith}
 
 -- what is left of the script, what is written and the bytes of both images are those of the beginning
@@ -100,6 +101,7 @@ pub record OneStopped {I : Type 0} (bytes_of : I → Option (List ℕ)) (past_of
 -- tells what is handed back or not, and by the status. The opener is asked for both, in order, once each, to be read and written (`asks`).
 -- Where script, report and images are known, the report is the text of the answers and the images are as the last state leaves them (`run`),
 -- or not both were opened. Whenever more of the script is asked for, all answers to the whole lines that came by then are written (`talks`).
+-- Each sector is a register in the lines that were answered, by script, report and the bytes of both images alone (`promise`).
 -- An image that failed has the bytes right after the first of its calls that failed, or not both were opened (`fails`).
 pub record RunsMirror {I : Type 0} (bytes_of : I → Option (List ℕ)) (past_of : I → Option (List Moment)) (knows : Bool)
     (old new : Surroundings I) (status : Status) (a b : List ℕ) : Type 0 where
@@ -109,4 +111,6 @@ pub record RunsMirror {I : Type 0} (bytes_of : I → Option (List ℕ)) (past_of
       (bytes_returned bytes_of new.opener.returned) old.counts new.counts status
       ⊎ ((status ≡ statuses.ImageFault) × FailsToOpen knows old new a b)
   pub talks : (first : MirrorBeginning) → BeginsMirror bytes_of first old knows → AsksOnly (IsMirrorToldBy first) old.asked new.asked
+  pub promise : (first : MirrorBeginning) → BeginsMirror bytes_of first old knows
+      → KeepsPair first.script first.report first.images new.written
   pub fails : knows ≡ true → status ≡ statuses.ImageFault → OneStopped bytes_of past_of new ⊎ FailsToOpen knows old new a b
