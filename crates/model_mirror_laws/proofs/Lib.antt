@@ -1,0 +1,11 @@
+pub mod FaultCounts
+pub mod SideRecords
+pub mod MirrorRecords
+pub mod Numbers
+pub mod Knowing
+pub mod Again
+pub mod Comes
+pub mod Staying
+pub mod ReadStays
+pub mod Aging
+pub mod OverRuns

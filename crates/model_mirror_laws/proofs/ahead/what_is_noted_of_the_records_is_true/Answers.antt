@@ -1,0 +1,25 @@
+-- By the lemmas on each call.
+use Rattle.model_mirror_laws.proofs.Aging.{ages_know}
+use Rattle.model_mirror_laws.proofs.Knowing.{knows_lead, begins_knows, power_knows, read_knows, write_knows, format_knows, resync_knows}
+use Rattle.model_mirror_laws.proofs.ahead.what_is_noted_of_the_records_is_true.Goals as goal
+
+pub returns-clause-begins : goal.returns-clause-begins
+returns-clause-begins c = begins_knows
+
+pub returns-clause-power : goal.returns-clause-power
+returns-clause-power c = λ shape old new sides sides' out cause whole knows. power_knows shape old new out cause sides sides' whole (knows_lead old knows)
+
+pub returns-clause-read : goal.returns-clause-read
+returns-clause-read c = λ shape old new sides sides' lba n out cause knows. read_knows shape old new sides sides' knows lba n out cause
+
+pub returns-clause-write : goal.returns-clause-write
+returns-clause-write c = λ shape old new sides sides' lba n out cause knows. write_knows shape old new sides sides' knows lba n out cause
+
+pub returns-clause-format : goal.returns-clause-format
+returns-clause-format c = λ shape old new sides sides' out cause knows. format_knows shape old new sides sides' knows out cause
+
+pub returns-clause-resync : goal.returns-clause-resync
+returns-clause-resync c = λ shape old new sides sides' out cause knows. resync_knows shape old new sides sides' knows out cause
+
+pub returns-clause-ages : goal.returns-clause-ages
+returns-clause-ages c = ages_know

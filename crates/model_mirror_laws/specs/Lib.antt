@@ -1,0 +1,5 @@
+pub mod Sides
+pub mod Kept
+pub mod Ahead
+pub mod Bytes
+pub mod Runs
