@@ -31,10 +31,10 @@ use ram_volume::Volume;
 ///
 /// - `Done`: the script was answered to its end. Then: all answers and the last line are written; both images are as the lines leave them.
 ///   (`EndsMirror`, `ToldWith`)
-/// - `Script`, `NotADisc`: the next line is none of the language, passes a limit, or needs a mirror where there is none. Then: that last line
-///   is written too. (`EndsMirror`, `ToldWith`)
-/// - `ImageFault`: the opener or an image counted a failure. Then: not both images were opened (`FailsToOpen`); or no line was begun
-///   (`IsNeverBegun`); or all answers are written, and the images are as the next line leaves them, in which one failed (`EndsMirror`).
+/// - `Script`, `NotADisc`: the next line is none of the language, or passes a limit; or it needs a mirror, and there is none. Then: all
+///   answers and that last line are written; both images are as the lines leave them. (`EndsMirror`, `ToldWith`)
+/// - `ImageFault`: the opener or an image counted a failure. Then: not both images were opened; or no line was begun; or all answers are
+///   written, and the images are as the next line leaves them, in which one failed. (`FailsToOpen`, `IsNeverBegun`, `EndsMirror`)
 /// - `SourceFault`: the source counted a failure. Then: every whole line that came is answered. (`IsCutAtSource`)
 /// - `SinkFault`: the sink counted one failure. Then: no line was answered after it. (`IsCutAtSink`)
 /// - `Differs`, `Usage`, `NoMemory`: never. (`IsOfRun`, `ToldWith`)
