@@ -19,7 +19,7 @@ use Rattle.ram_report.specs.declared.printing.MirrorEvent.{MirrorEvent}
 use Rattle.ram_machine.specs.SectorBytes.{bytes_of_sector, is_sector_among}
 use Rattle.ram_pair.specs.Told.{read_told, write_told, format_told, resync_told}
 use Rattle.ram_pair.specs.PairLines.{ReadCall, WriteCall, FormatCall, ResyncCall}
-use Rattle.ram_mirrored.specs.MirrorRegister.{MirrorRegister, AfterRead, AfterWrite, AfterOther, AfterFormat, AfterResync}
+use Rattle.ram_mirrored.specs.MirrorRegister.{MirrorRegister, OnRead, OnWrite, OnOther, OnFormat, OnResync}
 use Rattle.ram_mirrored.proofs.MirrorLeads.{read_known, write_known, format_known, resync_known}
 use Rattle.ram_mirrored.proofs.MirrorSectors.{HeldBoth, NobodyHolds, HeldBy, MatchesMirror, Turned}
 use Rattle.ram_mirrored.proofs.MirrorTurns.{when_off, unchanged, read_turn, resync_turn, format_turn, LiesFor, any_write}
@@ -86,35 +86,35 @@ module _ (at : ℕ) (old new : MirrorShown) (r : MirrorRegister) (was : MatchesM
   pub left_off : (Rule : MirrorRegister → Type 0) → Rule r → new ≡ old → Turned at new Rule
   left_off Rule rule same = record { after = r; rule = rule; matches = unchanged at old new r same was }
 
-  pub read_called : (lba n : ℕ) (bytes : List ℕ) (told : MirrorEvent) → ReadCall old new lba n bytes told → Turned at new (λ after. AfterRead at r lba n bytes told after)
+  pub read_called : (lba n : ℕ) (bytes : List ℕ) (told : MirrorEvent) → ReadCall old new lba n bytes told → Turned at new (λ after. OnRead at r lba n bytes told after)
   read_called lba n bytes told call =
-      subst (λ (e : MirrorEvent). Turned at new (λ after. AfterRead at r lba n bytes e after)) (sym call.told_is)
-      (by_known (λ after. AfterRead at r lba n bytes (read_told lba call.out) after)
+      subst (λ (e : MirrorEvent). Turned at new (λ after. OnRead at r lba n bytes e after)) (sym call.told_is)
+      (by_known (λ after. OnRead at r lba n bytes (read_told lba call.out) after)
       (λ known led held. read_turn at old new r led (read_known old new lba n call.out call.cause ∙ known) held lba n bytes call.out call.whole call.step)
       (λ known led none.
       let off = when_off at old new r (ReadsWithSides old new lba n call.out) ((call.out ≡ reads.Off) × (new ≡ old)) old.on none.off call.cause in
-      left_off (λ after. AfterRead at r lba n bytes (read_told lba call.out) after)
-      (subst (λ (o : ReadOut). AfterRead at r lba n bytes (read_told lba o) r) (sym off.0) refl) off.1))
+      left_off (λ after. OnRead at r lba n bytes (read_told lba call.out) after)
+      (subst (λ (o : ReadOut). OnRead at r lba n bytes (read_told lba o) r) (sym off.0) refl) off.1))
 
-  pub resync_called : (told : MirrorEvent) → ResyncCall old new told → Turned at new (λ after. AfterResync r told after)
+  pub resync_called : (told : MirrorEvent) → ResyncCall old new told → Turned at new (λ after. OnResync r told after)
   resync_called told call =
-      subst (λ (e : MirrorEvent). Turned at new (λ after. AfterResync r e after)) (sym call.told_is)
-      (by_known (λ after. AfterResync r (resync_told call.out) after)
+      subst (λ (e : MirrorEvent). Turned at new (λ after. OnResync r e after)) (sym call.told_is)
+      (by_known (λ after. OnResync r (resync_told call.out) after)
       (λ known led held. resync_turn at old new r led (resync_known old new call.out call.cause ∙ known) held call.out call.step)
       (λ known led none.
       let off = when_off at old new r (ResyncsOn old new call.out) ((call.out ≡ resyncs.Off) × (new ≡ old)) old.on none.off call.cause in
-      left_off (λ after. AfterResync r (resync_told call.out) after)
-      (subst (λ (o : Resync). AfterResync r (resync_told o) r) (sym off.0) refl) off.1))
+      left_off (λ after. OnResync r (resync_told call.out) after)
+      (subst (λ (o : Resync). OnResync r (resync_told o) r) (sym off.0) refl) off.1))
 
-  pub format_called : (told : MirrorEvent) → FormatCall old new told → Turned at new (λ after. AfterFormat r told after)
+  pub format_called : (told : MirrorEvent) → FormatCall old new told → Turned at new (λ after. OnFormat r told after)
   format_called told call =
-      subst (λ (e : MirrorEvent). Turned at new (λ after. AfterFormat r e after)) (sym call.told_is)
-      (by_known (λ after. AfterFormat r (format_told call.out) after)
+      subst (λ (e : MirrorEvent). Turned at new (λ after. OnFormat r e after)) (sym call.told_is)
+      (by_known (λ after. OnFormat r (format_told call.out) after)
       (λ known led held. format_turn at old new r led (format_known old new call.out call.cause ∙ known) held call.out call.step)
       (λ known led none.
       let off = when_off at old new r (FormatsOn old new call.out) ((call.out ≡ formats.Off) × (new ≡ old)) old.on none.off call.cause in
-      left_off (λ after. AfterFormat r (format_told call.out) after)
-      (subst (λ (o : FormatOut). AfterFormat r (format_told o) r) (sym off.0) refl) off.1))
+      left_off (λ after. OnFormat r (format_told call.out) after)
+      (subst (λ (o : FormatOut). OnFormat r (format_told o) r) (sym off.0) refl) off.1))
 
   module _ (lba n : ℕ) (payload : List ℕ) (whole : length payload ≡ 2048 * n) where
     lies_for : (out : WriteOut) → MirrorWriteCause old new lba n out → LiesFor old lba n payload out
@@ -129,10 +129,10 @@ module _ (at : ℕ) (old new : MirrorShown) (r : MirrorRegister) (was : MatchesM
     lies_for writes.Fault cause = λ disc may. lies_in_range old.lead disc lba n payload may.1 (write_range old lba n new writes.Fault cause may.0) whole
 
     abbrev Wrote : MirrorEvent → MirrorRegister → Type 0
-    Wrote told after = MatchBool (is_sector_among lba n at) (AfterWrite at r (bytes_of_sector lba payload at) told after) (AfterOther r told after)
+    Wrote told after = MatchBool (is_sector_among lba n at) (OnWrite at r (bytes_of_sector lba payload at) told after) (OnOther r told after)
 
     -- a write of a mirror that is off
-    off_wrote : (b : Bool) → MatchBool b (AfterWrite at r (bytes_of_sector lba payload at) (write_told writes.Off) r) (AfterOther r (write_told writes.Off) r)
+    off_wrote : (b : Bool) → MatchBool b (OnWrite at r (bytes_of_sector lba payload at) (write_told writes.Off) r) (OnOther r (write_told writes.Off) r)
     off_wrote true = refl
     off_wrote false = refl
 

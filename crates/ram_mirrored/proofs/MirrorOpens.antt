@@ -34,7 +34,7 @@ use Rattle.ram_machine.proofs.SectorBoth.{one_lost, other_lost}
 use Rattle.ram_pair.specs.declared.told.Told.TheVariants as told
 use Rattle.ram_pair.specs.PairStates.{TwoImages, Mirrored, PairState, Unpaired, Paired, side_a, side_b, ShowsOpened, IsFirstPair, IsPressedPair}
 use Rattle.ram_pair.specs.PairSteps.{PressPair}
-use Rattle.ram_mirrored.specs.MirrorRegister.{MirrorRegister, AfterPress, IsMirrorOpened}
+use Rattle.ram_mirrored.specs.MirrorRegister.{MirrorRegister, OnPress, IsMirrorOpened}
 use Rattle.ram_mirrored.proofs.MirrorSectors.{FallTo, SideFalls, SidesFall, MatchesMirror, match_none, both_values, in_first, in_second}
 
 -- the register goes with a state; of images that are no discs nothing is known, and no line can be answered but a press
@@ -231,7 +231,7 @@ module _ (at : ℕ) where
       both : (lost : List ℕ) → SidesFall lost at t.shown []
       both lost = record { a = pressed_side lost shape lawful (side_a t.shown) is.a; b = pressed_side lost shape lawful (side_b t.shown) is.b }
 
-  pub press_turn : (s t : PairState) (r : MirrorRegister) (shape : Shape) (event : MirrorEvent) → PressPair s shape (Ok (told.Event event)) t → MatchesPair at s r → TurnedPair at t (λ after. AfterPress r event after)
+  pub press_turn : (s t : PairState) (r : MirrorRegister) (shape : Shape) (event : MirrorEvent) → PressPair s shape (Ok (told.Event event)) t → MatchesPair at s r → TurnedPair at t (λ after. OnPress r event after)
   press_turn s t r shape (mirrors.OfDisc events.Pressed) step was = record { after = pressed_register; rule = refl; matches = pressed_pair shape step.0 t step.1 }
   press_turn s t r shape (mirrors.OfDisc events.NotPressed) step was = record { after = r; rule = refl; matches = subst (λ (x : PairState). MatchesPair at x r) (sym step.1) was }
   press_turn s t r shape _ step was = absurd step

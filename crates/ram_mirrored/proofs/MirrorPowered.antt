@@ -29,7 +29,7 @@ use Rattle.ram_machine.proofs.SectorBoth.{one_lost, other_lost}
 use Rattle.ram_pair.specs.Told.{power_told, lead_told, give_told}
 use Rattle.ram_pair.specs.PairStates.{side_a, side_b, MayBe}
 use Rattle.ram_pair.specs.PairLines.{PowerCall, LeadCall, GiveCall}
-use Rattle.ram_mirrored.specs.MirrorRegister.{MirrorRegister, settled, gone, emptied, led_on, LeadsAnew, AfterPower, AfterLead, AfterGiven}
+use Rattle.ram_mirrored.specs.MirrorRegister.{MirrorRegister, settled_at, has_none, emptied, led_on, LeadsAnew, OnPower, OnLead, OnGiven}
 use Rattle.ram_mirrored.proofs.MirrorLeads.{SameKnown, Tells, PowerTells, power_tells}
 use Rattle.ram_mirrored.proofs.MirrorSectors.{FallTo, Fits, Held, HeldBoth, SideFalls, SidesFall, NobodyHolds, MatchesMirror, Turned, match_led, match_none, by_one, by_other, values_of, falls_to_own, both_values, in_first, in_second, found_some, found_none, fall_short}
 use Rattle.ram_mirrored.proofs.MirrorCalls.{by_known, left_off}
@@ -115,10 +115,10 @@ module _ (lost : List ℕ) (at : ℕ) where
       go powers.Fault step = off_all step
 
   -- so does a mirror that was stopped
-  mirror_mounted : (new : MirrorShown) (r : MirrorRegister) (s : Standing) → FallTo at (falls_under lost r.falls) (candidates s) → StandsMounted (once_off (MayBe new)) s → Held lost at new (gone r)
+  mirror_mounted : (new : MirrorShown) (r : MirrorRegister) (s : Standing) → FallTo at (falls_under lost r.falls) (candidates s) → StandsMounted (once_off (MayBe new)) s → Held lost at new (has_none r)
   mirror_mounted new r s fall mounted = go mounted.told mounted.step
     where
-      go : (told : PowerOut) → PowerStep mounted.mounted (once_off (MayBe new)) s told → Held lost at new (gone r)
+      go : (told : PowerOut) → PowerStep mounted.mounted (once_off (MayBe new)) s told → Held lost at new (has_none r)
       go (powers.Ready known) step = record {
         standing = Off (step.disc ∷ []);
         stands = step.found;
@@ -133,7 +133,7 @@ module _ (lost : List ℕ) (at : ℕ) where
 
   -- what a mirror finds that is ready
   abbrev Finds : MirrorShown → MirrorRegister → Type 0
-  Finds new r = ((value : Value) × Contains r.falls value × Held lost at new (led_on (settled r value))) ⊎ Held lost at new (led_on (emptied r))
+  Finds new r = ((value : Value) × Contains r.falls value × Held lost at new (led_on (settled_at r value))) ⊎ Held lost at new (led_on (emptied r))
 
   finds : (new : MirrorShown) (r : MirrorRegister) (s : Standing) → FallTo at (falls_under lost r.falls) (candidates s) → FindsMounted new.lead (MayBe new) s → Finds new r
   finds new r s fall mounted =
@@ -143,23 +143,23 @@ module _ (lost : List ℕ) (at : ℕ) where
         | inl past ↦ inr (record { standing = On disc; stands = mounted.finds.found; fits = fits_led (On disc) (emptied r) (found_none lost at disc r past) })
         | inr inside ↦
             let held = has_bytes lost r.falls (sectors_of disc at 1) (fall disc there inside) in
-            inl (held.value, held.among, record { standing = On disc; stands = mounted.finds.found; fits = fits_led (On disc) (settled r held.value) (found_some lost at disc r held.value inside held.has) })
+            inl (held.value, held.among, record { standing = On disc; stands = mounted.finds.found; fits = fits_led (On disc) (settled_at r held.value) (found_some lost at disc r held.value inside held.has) })
       ]
 
 -- one register for both
 module _ (at : ℕ) (new : MirrorShown) (r : MirrorRegister) (known : new.who.known ≡ true) where
   abbrev IsFound : MirrorRegister → Type 0
-  IsFound after = ((value : Value) × Contains r.falls value × (after ≡ led_on (settled r value))) ⊎ (after ≡ led_on (emptied r))
+  IsFound after = ((value : Value) × Contains r.falls value × (after ≡ led_on (settled_at r value))) ⊎ (after ≡ led_on (emptied r))
 
   no_sector : HeldBoth at new (led_on (emptied r)) → Turned at new IsFound
   no_sector both = record { after = led_on (emptied r); rule = inr refl; matches = match_led at new (led_on (emptied r)) known refl both }
 
-  has_sector : (value : Value) → Contains r.falls value → HeldBoth at new (led_on (settled r value)) → Turned at new IsFound
-  has_sector value among both = record { after = led_on (settled r value); rule = inl (value, among, refl); matches = match_led at new (led_on (settled r value)) known refl both }
+  has_sector : (value : Value) → Contains r.falls value → HeldBoth at new (led_on (settled_at r value)) → Turned at new IsFound
+  has_sector value among both = record { after = led_on (settled_at r value); rule = inl (value, among, refl); matches = match_led at new (led_on (settled_at r value)) known refl both }
 
-  join_values : (one_value other_value : Value) → Contains r.falls one_value → Contains r.falls other_value → Held one_lost at new (led_on (settled r one_value)) → Held other_lost at new (led_on (settled r other_value)) → Turned at new IsFound
-  join_values (Bytes bytes) other_value among also one other = has_sector (Bytes bytes) among (by_one at new (led_on (settled r (Bytes bytes))) (record { now = refl; falls = refl }) one)
-  join_values Lost (Bytes bytes) among also one other = has_sector (Bytes bytes) also (by_other at new (led_on (settled r (Bytes bytes))) (record { now = refl; falls = refl }) other)
+  join_values : (one_value other_value : Value) → Contains r.falls one_value → Contains r.falls other_value → Held one_lost at new (led_on (settled_at r one_value)) → Held other_lost at new (led_on (settled_at r other_value)) → Turned at new IsFound
+  join_values (Bytes bytes) other_value among also one other = has_sector (Bytes bytes) among (by_one at new (led_on (settled_at r (Bytes bytes))) (record { now = refl; falls = refl }) one)
+  join_values Lost (Bytes bytes) among also one other = has_sector (Bytes bytes) also (by_other at new (led_on (settled_at r (Bytes bytes))) (record { now = refl; falls = refl }) other)
   join_values Lost Lost among also one other = has_sector Lost among (record { one = one; other = other })
 
   join_found : Finds one_lost at new r → Finds other_lost at new r → Turned at new IsFound
@@ -283,7 +283,7 @@ module _ (at : ℕ) (old new : MirrorShown) (r : MirrorRegister) (was : MatchesM
           b = side_mounted lost at (side_b new) r.falls sides.b.standing sides.b.fall step.of_b;
         }
 
-  ready : (capacity : ℕ) → new.who.known ≡ true → Part one_lost (outs.Ready capacity) → Part other_lost (outs.Ready capacity) → Turned at new (λ after. AfterPower r (power_told (outs.Ready capacity)) after)
+  ready : (capacity : ℕ) → new.who.known ≡ true → Part one_lost (outs.Ready capacity) → Part other_lost (outs.Ready capacity) → Turned at new (λ after. OnPower r (power_told (outs.Ready capacity)) after)
   ready capacity known one other = join_found at new r known (finds one_lost at new r one.lead one.fall one.leads) (finds other_lost at new r other.lead other.fall other.leads)
 
   bare : new.who.known ≡ true → MayBe new (On []) → Turned at new (λ after. after ≡ led_on (emptied r))
@@ -305,17 +305,17 @@ module _ (at : ℕ) (old new : MirrorShown) (r : MirrorRegister) (was : MatchesM
       let after : MirrorRegister = record { now = None; falls = r.falls; led = false } in
       record { after = after; rule = anew_none r false led; matches = match_none at new after known refl (record { off = off; none = refl; one = sides.0; other = sides.1 }) }
 
-  gone_none : Nobody r.falls → r.led ≡ false → new.who.known ≡ false → new.on ≡ false → Turned at new (λ after. after ≡ gone r)
-  gone_none sides led known off = record { after = gone r; rule = refl; matches = match_none at new (gone r) known led (record { off = off; none = refl; one = sides.0; other = sides.1 }) }
+  gone_none : Nobody r.falls → r.led ≡ false → new.who.known ≡ false → new.on ≡ false → Turned at new (λ after. after ≡ has_none r)
+  gone_none sides led known off = record { after = has_none r; rule = refl; matches = match_none at new (has_none r) known led (record { off = off; none = refl; one = sides.0; other = sides.1 }) }
 
-  gone_led : HeldBoth at new (gone r) → r.led ≡ true → new.who.known ≡ true → Turned at new (λ after. after ≡ gone r)
-  gone_led held led known = record { after = gone r; rule = refl; matches = match_led at new (gone r) known led held }
+  gone_led : HeldBoth at new (has_none r) → r.led ≡ true → new.who.known ≡ true → Turned at new (λ after. after ≡ has_none r)
+  gone_led held led known = record { after = has_none r; rule = refl; matches = match_led at new (has_none r) known led held }
 
   power_led : (out : MirrorPowerOut) → r.led ≡ true → old.who.known ≡ true → HeldBoth at old r → PowerTells old new out
-      → ((s t : Standing) → StandsFor (side_a old) s → StandsFor (side_b old) t → PowersAs out s t) → Turned at new (λ after. AfterPower r (power_told out) after)
+      → ((s t : Standing) → StandsFor (side_a old) s → StandsFor (side_b old) t → PowersAs out s t) → Turned at new (λ after. OnPower r (power_told out) after)
   power_led out led known held tells steps = go out tells.tells (led_part out steps (tells.stays known) one_lost held.one) (led_part out steps (tells.stays known) other_lost held.other)
     where
-      go : (out : MirrorPowerOut) → Tells old new out → Part one_lost out → Part other_lost out → Turned at new (λ after. AfterPower r (power_told out) after)
+      go : (out : MirrorPowerOut) → Tells old new out → Part one_lost out → Part other_lost out → Turned at new (λ after. OnPower r (power_told out) after)
       go (outs.Ready capacity) told one other = ready capacity told one other
       go outs.NotFormatted told one other = bare told one.leads
       go outs.Unknown told one other = forgotten_led one.a.standing one.b.standing one.a.stands one.b.stands led told.0 told.1
@@ -323,33 +323,33 @@ module _ (at : ℕ) (old new : MirrorShown) (r : MirrorRegister) (was : MatchesM
       go outs.Fault told one other = gone_led (record { one = mirror_mounted one_lost at new r one.lead one.fall one.leads; other = mirror_mounted other_lost at new r other.lead other.fall other.leads }) led (told.0 ∙ known)
 
   power_none : (out : MirrorPowerOut) → r.led ≡ false → old.who.known ≡ false → NobodyHolds at old r → PowerTells old new out
-      → ((s t : Standing) → StandsFor (side_a old) s → StandsFor (side_b old) t → PowersAs out s t) → Turned at new (λ after. AfterPower r (power_told out) after)
+      → ((s t : Standing) → StandsFor (side_a old) s → StandsFor (side_b old) t → PowersAs out s t) → Turned at new (λ after. OnPower r (power_told out) after)
   power_none out led known held tells steps = go out tells.tells (none_part out steps one_lost held.one) (none_part out steps other_lost held.other) (none_sides out steps one_lost held.one, none_sides out steps other_lost held.other)
     where
-      go : (out : MirrorPowerOut) → Tells old new out → Part one_lost out → Part other_lost out → Nobody r.falls → Turned at new (λ after. AfterPower r (power_told out) after)
+      go : (out : MirrorPowerOut) → Tells old new out → Part one_lost out → Part other_lost out → Nobody r.falls → Turned at new (λ after. OnPower r (power_told out) after)
       go (outs.Ready capacity) told one other sides = ready capacity told one other
       go outs.NotFormatted told one other sides = bare told one.leads
       go outs.Unknown told one other sides = forgotten_none sides led told.0 told.1
       go outs.Cut told one other sides = gone_none sides led (told.0 ∙ known) told.1
       go outs.Fault told one other sides = gone_none sides led (told.0 ∙ known) told.1
 
-  pub power_called : (told : MirrorEvent) → PowerCall old new told → Turned at new (λ after. AfterPower r told after)
+  pub power_called : (told : MirrorEvent) → PowerCall old new told → Turned at new (λ after. OnPower r told after)
   power_called told call =
-      subst (λ (e : MirrorEvent). Turned at new (λ after. AfterPower r e after)) (sym call.told_is)
-      (by_known at old new r was (λ after. AfterPower r (power_told call.out) after)
+      subst (λ (e : MirrorEvent). Turned at new (λ after. OnPower r e after)) (sym call.told_is)
+      (by_known at old new r was (λ after. OnPower r (power_told call.out) after)
       (λ known led held. power_led call.out led known held (power_tells old new call.out call.cause) call.step)
       (λ known led held. power_none call.out led known held (power_tells old new call.out call.cause) call.step))
 
   -- ---- it is told who leads
-  told_leader : (known lead_is_a : Bool) → r.led ≡ known → AfterLead r (lead_told (leader_as known lead_is_a)) r
+  told_leader : (known lead_is_a : Bool) → r.led ≡ known → OnLead r (lead_told (leader_as known lead_is_a)) r
   told_leader true true led = (led, refl)
   told_leader true false led = (led, refl)
   told_leader false lead_is_a led = (led, refl)
 
-  pub lead_called : (told : MirrorEvent) → LeadCall old new told → Turned at new (λ after. AfterLead r told after)
+  pub lead_called : (told : MirrorEvent) → LeadCall old new told → Turned at new (λ after. OnLead r told after)
   lead_called told call =
-      left_off at old new r was (λ after. AfterLead r told after)
-      (subst (λ (e : MirrorEvent). AfterLead r e r) (sym call.told_is) (told_leader old.who.known old.lead_is_a was.led)) call.same
+      left_off at old new r was (λ after. OnLead r told after)
+      (subst (λ (e : MirrorEvent). OnLead r e r) (sym call.told_is) (told_leader old.who.known old.lead_is_a was.led)) call.same
 
   -- ---- the lead is given by hand
   turned_known : (turns : Bool) (shown : MirrorShown) → SameKnown shown (turned turns shown)
@@ -442,10 +442,10 @@ module _ (at : ℕ) (old new : MirrorShown) (r : MirrorRegister) (was : MatchesM
             held_given lost sides.a.standing sides.b.standing r.falls off (given_side to_a (side_a new) sides.a.standing (of_a sides.a.standing sides.a.stands))
             (given_side (not to_a) (side_b new) sides.b.standing (of_b sides.b.standing sides.b.stands)) (fall_by lost new.lead_is_a sides.a.standing sides.b.standing sides.a.fall sides.b.fall)
 
-    refused_led : (out : GiveOut) → OfA out → OfB out → r.led ≡ true → old.who.known ≡ true → HeldBoth at old r → NotGiven → Turned at new (λ after. after ≡ gone r)
+    refused_led : (out : GiveOut) → OfA out → OfB out → r.led ≡ true → old.who.known ≡ true → HeldBoth at old r → NotGiven → Turned at new (λ after. after ≡ has_none r)
     refused_led out of_a of_b led known held refuses = gone_led (record { one = part one_lost held.one; other = part other_lost held.other }) led (refuses.known ∙ known)
       where
-        part : (lost : List ℕ) → Held lost at old r → Held lost at new (gone r)
+        part : (lost : List ℕ) → Held lost at old r → Held lost at new (has_none r)
         part lost it =
             let sides = sides_of old it.standing it.stands in
             let s : Standing = of_lead old.lead_is_a sides.lead sides.other in
@@ -463,7 +463,7 @@ module _ (at : ℕ) (old new : MirrorShown) (r : MirrorRegister) (was : MatchesM
     side_kept lost meant side s out fall (inl stands) = record { standing = s; stands = stands; fall = fall }
     side_kept lost meant side s out fall (inr stands) = record { standing = Off (candidates s); stands = stands; fall = fall }
 
-    refused_none : (out : GiveOut) → OfA out → OfB out → r.led ≡ false → old.who.known ≡ false → NobodyHolds at old r → NotGiven → Turned at new (λ after. after ≡ gone r)
+    refused_none : (out : GiveOut) → OfA out → OfB out → r.led ≡ false → old.who.known ≡ false → NobodyHolds at old r → NotGiven → Turned at new (λ after. after ≡ has_none r)
     refused_none out of_a of_b led known held refuses = gone_none (part one_lost held.one, part other_lost held.other) led (refuses.known ∙ known) refuses.off
       where
         part : (lost : List ℕ) → SidesFall lost at old r.falls → SidesFall lost at new r.falls
@@ -472,12 +472,12 @@ module _ (at : ℕ) (old new : MirrorShown) (r : MirrorRegister) (was : MatchesM
           b = side_kept lost (not to_a) (side_b new) sides.b.standing out sides.b.fall (kept_or_off (not to_a) (side_b new) sides.b.standing out (of_b sides.b.standing sides.b.stands));
         }
 
-    refused : (out : GiveOut) → OfA out → OfB out → NotGiven → Turned at new (λ after. after ≡ gone r)
-    refused out of_a of_b refuses = by_known at old new r was (λ after. after ≡ gone r)
+    refused : (out : GiveOut) → OfA out → OfB out → NotGiven → Turned at new (λ after. after ≡ has_none r)
+    refused out of_a of_b refuses = by_known at old new r was (λ after. after ≡ has_none r)
         (λ known led held. refused_led out of_a of_b led known held refuses)
         (λ known led held. refused_none out of_a of_b led known held refuses)
 
-    give_turn : (out : GiveOut) → Gives (is_to_turn old.lead_is_a to_a) old new out → OfA out → OfB out → Turned at new (λ after. AfterGiven r to_a (give_told to_a out) after)
+    give_turn : (out : GiveOut) → Gives (is_to_turn old.lead_is_a to_a) old new out → OfA out → OfB out → Turned at new (λ after. OnGiven r to_a (give_told to_a out) after)
     give_turn gives.Given cause of_a of_b =
         let known = ap (λ (s : MirrorShown). s.who.known) cause.new_is in
         let off = ap (λ (s : MirrorShown). s.on) cause.new_is in
@@ -489,7 +489,7 @@ module _ (at : ℕ) (old new : MirrorShown) (r : MirrorRegister) (was : MatchesM
     give_turn gives.Off cause of_a of_b = left_off at old new r was (λ after. after ≡ r) refl cause.1
     give_turn gives.Fault cause of_a of_b = refused gives.Fault of_a of_b (not_given (is_to_turn old.lead_is_a to_a) records.Fault cause)
 
-    pub give_called : (told : MirrorEvent) → GiveCall old new to_a told → Turned at new (λ after. AfterGiven r to_a told after)
+    pub give_called : (told : MirrorEvent) → GiveCall old new to_a told → Turned at new (λ after. OnGiven r to_a told after)
     give_called told call =
-        subst (λ (e : MirrorEvent). Turned at new (λ after. AfterGiven r to_a e after)) (sym call.told_is)
+        subst (λ (e : MirrorEvent). Turned at new (λ after. OnGiven r to_a e after)) (sym call.told_is)
         (give_turn call.out call.cause call.of_a call.of_b)

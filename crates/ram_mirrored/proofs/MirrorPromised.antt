@@ -31,8 +31,8 @@ use Rattle.ram_pair.specs.PairTexts.{told_text, is_answer, IsPairStep, PairRun}
 use Rattle.model_geometry.specs.Geometry.{shape_in}
 use Rattle.model_geometry.specs.declared.kinds.LayoutKind.TheVariants.{OneGroup}
 use Rattle.ram_mirrored.specs.MirrorRuns.{MirrorBeginning, MirrorSoFar, MirrorToldWith, MirrorStandsWith}
-use Rattle.ram_mirrored.specs.MirrorRegister.{MirrorRegister, AfterLine, MirrorTurn, MirrorTurns, MirrorAnswered}
-use Rattle.ram_mirrored.specs.MirrorPromise.{IsMirrorRead, text_of, texts_of, IsLostFailure, NoneIsLost, KeepsPair}
+use Rattle.ram_mirrored.specs.MirrorRegister.{MirrorRegister, OnLine, MirrorTurn, MirrorTurns, MirrorAnswered}
+use Rattle.ram_mirrored.specs.MirrorPromise.{IsMirrorRead, answered_text, texts_of, IsLostFailure, NoneIsLost, KeepsPair}
 use Rattle.ram_mirrored.proofs.MirrorSectors.{MatchesMirror, Turned}
 use Rattle.ram_mirrored.proofs.MirrorCalls.{read_called, write_called, format_called, resync_called}
 use Rattle.ram_mirrored.proofs.MirrorPowered.{power_called, lead_called, give_called}
@@ -65,7 +65,7 @@ is_whole raw _ payload reads = tt
 -- ---- a line
 module _ (at : ℕ) where
   call_turn : (s t : Mirrored) (r : MirrorRegister) (line : MirrorLine) (payload bytes : List ℕ) (event : MirrorEvent) → IsWhole line payload → ¬ IsLostFailure line (told.Event event) → MatchesMirror at s.shown r
-      → CallRule s.shown t.shown line payload bytes event → Turned at t.shown (λ after. AfterLine at r line payload event bytes after)
+      → CallRule s.shown t.shown line payload bytes event → Turned at t.shown (λ after. OnLine at r line payload event bytes after)
   call_turn s t r lines.Empty payload bytes event whole lost was rule = absurd rule
   call_turn s t r (lines.Press zones scale psa) payload bytes event whole lost was rule = absurd rule
   call_turn s t r lines.Power payload bytes event whole lost was rule = power_called at s.shown t.shown r was event rule
@@ -154,8 +154,8 @@ as_told first last [] run = refl
 as_told first last (event ∷ events) run =
     let more : List MirrorAnswered = answers_of first run.0 events run.1 in
     let own : MirrorAnswered = answer_of run.0 (length events + 1) event last run.2 in
-    ap (λ (n : ℕ). text_of (n + 1) own ∷ texts_of more) (as_many first run.0 events run.1)
-    ∙ ap (λ (l : List AnsweredText). text_of (length events + 1) own ∷ l) (as_told first run.0 events run.1)
+    ap (λ (n : ℕ). answered_text (n + 1) own ∷ texts_of more) (as_many first run.0 events run.1)
+    ∙ ap (λ (l : List AnsweredText). answered_text (length events + 1) own ∷ l) (as_told first run.0 events run.1)
     ∙ ap (λ (e : AnsweredText). e ∷ events) (same_text event (if is_answer run.2.told then 1 else 0) (told_text (length events + 1) run.2.told run.2.bytes) run.2.text_is run.2.answers_are)
 
 all_read : (first last : PairState) (events : List AnsweredText) (run : PairRun first events last) → All IsMirrorRead (answers_of first last events run)

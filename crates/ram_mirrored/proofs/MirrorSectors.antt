@@ -17,7 +17,7 @@ use Rattle.ram_machine.proofs.SectorFilled.{filled_differ}
 use Rattle.ram_machine.proofs.SectorNow.{now_of, now_there, now_gone, now_same}
 use Rattle.ram_machine.proofs.SectorBoth.{one_lost, other_lost}
 use Rattle.ram_pair.specs.PairStates.{side_a, side_b, MayBe}
-use Rattle.ram_mirrored.specs.MirrorRegister.{MirrorRegister, settled, gone, emptied}
+use Rattle.ram_mirrored.specs.MirrorRegister.{MirrorRegister, settled_at, has_none, emptied}
 
 -- what is there now
 abbrev pub now_at : (at : ℕ) → Standing → Option (List ℕ)
@@ -159,11 +159,11 @@ module _ (lost : List ℕ) (at : ℕ) where
   fits_same s t r is was = subst (λ (x : Standing). Fits lost at x r) is was
 
   -- the power went off
-  pub fits_off : (s t : Standing) (r : MirrorRegister) → Off (candidates s) ≡ t → Fits lost at s r → Fits lost at t (gone r)
-  fits_off s t r is was = subst (λ (x : Standing). Fits lost at x (gone r)) is (record { now = refl; falls = was.falls })
+  pub fits_off : (s t : Standing) (r : MirrorRegister) → Off (candidates s) ≡ t → Fits lost at s r → Fits lost at t (has_none r)
+  fits_off s t r is was = subst (λ (x : Standing). Fits lost at x (has_none r)) is (record { now = refl; falls = was.falls })
 
   -- one disc is found, with what it has
-  pub found_some : (disc : List ℕ) (r : MirrorRegister) (value : Value) → 2048 * (at + 1) ≤ length disc → bytes_under lost value ≡ sectors_of disc at 1 → Fits lost at (On disc) (settled r value)
+  pub found_some : (disc : List ℕ) (r : MirrorRegister) (value : Value) → 2048 * (at + 1) ≤ length disc → bytes_under lost value ≡ sectors_of disc at 1 → Fits lost at (On disc) (settled_at r value)
   found_some disc r value inside has = record {
     now = ap Some has ∙ sym (now_there at disc inside);
     falls = one_of;
@@ -198,7 +198,7 @@ module _ (lost : List ℕ) (at : ℕ) where
       ]
 
   -- one of two, and the power is off
-  pub fits_two : (x y : List ℕ) (r : MirrorRegister) → FallTo at (falls_under lost r.falls) (x ∷ []) → FallTo at (falls_under lost r.falls) (y ∷ []) → Fits lost at (Off (x ∷ y ∷ [])) (gone r)
+  pub fits_two : (x y : List ℕ) (r : MirrorRegister) → FallTo at (falls_under lost r.falls) (x ∷ []) → FallTo at (falls_under lost r.falls) (y ∷ []) → Fits lost at (Off (x ∷ y ∷ [])) (has_none r)
   fits_two x y r one other = record { now = refl; falls = two_of }
     where
       two_of : FallTo at (falls_under lost r.falls) (x ∷ y ∷ [])
@@ -241,7 +241,7 @@ module _ (lost : List ℕ) (at : ℕ) where
         apart (inr (inr behind)) = inr (inr behind)
 
     module _ (from : lba ≤ at) (to : at < lba + n) where
-      pub reached : (b : ℕ) → at < 16 * b → Fits lost at (On (replaced disc lba payload b)) (settled r (Bytes sent))
+      pub reached : (b : ℕ) → at < 16 * b → Fits lost at (On (replaced disc lba payload b)) (settled_at r (Bytes sent))
       reached b before =
           let inside : lba + n ≤ 16 * lies.blocks = lies.inside in
           let long : length disc ≡ 32768 * lies.blocks = lies.as_long in

@@ -12,17 +12,17 @@ use Rattle.ram_machine.specs.Register.{Value, Bytes}
 use Rattle.ram_machine.specs.SectorBytes.{bytes_of_sector, is_sector_among}
 use Rattle.ram_pair.specs.declared.told.Told.{Told}
 use Rattle.ram_pair.specs.declared.told.Told.TheVariants as told
-use Rattle.ram_mirrored.specs.MirrorRegister.{MirrorRegister, settled, gone, emptied, led_on, AfterPower, AfterRefusal, AfterRead, AfterWrite, AfterOther, AfterResync, AfterLead, AfterLine, MirrorTurn, MirrorTurns, MirrorAnswered, Shows}
-use Rattle.ram_mirrored.specs.MirrorSettled.{HasSettled, LeavesSector, LeaveSector}
+use Rattle.ram_mirrored.specs.MirrorRegister.{MirrorRegister, settled_at, has_none, emptied, led_on, OnPower, OnRefusal, OnRead, OnWrite, OnOther, OnResync, OnLead, OnLine, MirrorTurn, MirrorTurns, MirrorAnswered, GivesSector}
+use Rattle.ram_mirrored.specs.MirrorSettled.{HasSettledOn, KeepsOneSector, KeepSector}
 
 module _ (at : ℕ) (bytes : List ℕ) where
-  kept : (r after : MirrorRegister) → after ≡ r → HasSettled r bytes → HasSettled after bytes
-  kept r after is has = subst (λ (x : MirrorRegister). HasSettled x bytes) (sym is) has
+  kept : (r after : MirrorRegister) → after ≡ r → HasSettledOn r bytes → HasSettledOn after bytes
+  kept r after is has = subst (λ (x : MirrorRegister). HasSettledOn x bytes) (sym is) has
 
-  went : (r after : MirrorRegister) → after ≡ gone r → HasSettled r bytes → HasSettled after bytes
-  went r after is has = kept (gone r) after is (record { shows = λ found some. absurd (let clash : None ≡ Some found = some in cc); falls = has.falls })
+  went : (r after : MirrorRegister) → after ≡ has_none r → HasSettledOn r bytes → HasSettledOn after bytes
+  went r after is has = kept (has_none r) after is (record { shows = λ found some. absurd (let clash : None ≡ Some found = some in cc); falls = has.falls })
 
-  none_left : (r after : MirrorRegister) → after ≡ led_on (emptied r) → HasSettled r bytes → HasSettled after bytes
+  none_left : (r after : MirrorRegister) → after ≡ led_on (emptied r) → HasSettledOn r bytes → HasSettledOn after bytes
   none_left r after is has =
       kept (led_on (emptied r)) after is (record { shows = λ found some. absurd (let clash : None ≡ Some found = some in cc); falls = λ found none. absurd (Contains-none found none) })
 
@@ -32,34 +32,34 @@ module _ (at : ℕ) (bytes : List ℕ) where
   one_value : (value found : Value) → value ≡ Bytes bytes → Contains (value ∷ []) found → found ≡ Bytes bytes
   one_value value found is there = elim (Contains-cases value [] found there) [ inl same ↦ sym same ∙ is | inr none ↦ absurd (Contains-none found none) ]
 
-  now_one : (r : MirrorRegister) (value : Value) → value ≡ Bytes bytes → HasSettled (settled r value) bytes
+  now_one : (r : MirrorRegister) (value : Value) → value ≡ Bytes bytes → HasSettledOn (settled_at r value) bytes
   now_one r value is = record { shows = λ found some. sym (same_some value found some) ∙ is; falls = λ found there. one_value value found is there }
 
-  by_power : (r after : MirrorRegister) (event : MirrorEvent) → told.Event event ≢ told.Event mirrors.Unknown → AfterPower r event after → HasSettled r bytes → HasSettled after bytes
+  by_power : (r after : MirrorRegister) (event : MirrorEvent) → told.Event event ≢ told.Event mirrors.Unknown → OnPower r event after → HasSettledOn r bytes → HasSettledOn after bytes
   by_power r after (mirrors.OfDisc (events.Ready capacity)) leads (inl (value, among, is)) has =
       let one = now_one r value (has.falls value among) in
-      kept (led_on (settled r value)) after is (record { shows = one.shows; falls = one.falls })
+      kept (led_on (settled_at r value)) after is (record { shows = one.shows; falls = one.falls })
   by_power r after (mirrors.OfDisc (events.Ready capacity)) leads (inr is) has = none_left r after is has
   by_power r after (mirrors.OfDisc events.NotFormatted) leads is has = none_left r after is has
   by_power r after mirrors.Unknown leads is has = absurd (leads refl)
   by_power r after (mirrors.OfDisc events.Cut) leads is has = went r after is has
   by_power r after _ leads is has = absurd is
 
-  by_refusal : (r after : MirrorRegister) (event : MirrorEvent) → AfterRefusal r event after → HasSettled r bytes → HasSettled after bytes
+  by_refusal : (r after : MirrorRegister) (event : MirrorEvent) → OnRefusal r event after → HasSettledOn r bytes → HasSettledOn after bytes
   by_refusal r after (mirrors.OfDisc events.Cut) is has = went r after is has
   by_refusal r after (mirrors.OfDisc events.Off) is has = kept r after is has
   by_refusal r after (mirrors.OfDisc events.NotFormatted) is has = kept r after is has
   by_refusal r after (mirrors.Range capacity) is has = kept r after is has
   by_refusal r after _ is has = absurd is
 
-  by_read : (r after : MirrorRegister) (lba n : ℕ) (shown : List ℕ) (event : MirrorEvent) → AfterRead at r lba n shown event after → HasSettled r bytes → HasSettled after bytes
+  by_read : (r after : MirrorRegister) (lba n : ℕ) (shown : List ℕ) (event : MirrorEvent) → OnRead at r lba n shown event after → HasSettledOn r bytes → HasSettledOn after bytes
   by_read r after lba n shown (mirrors.Shows first) is has = kept r after is.2 has
   by_read r after lba n shown (mirrors.Unread named) is has = kept r after is has
   by_read r after lba n shown (mirrors.OfDisc event) is has = by_refusal r after (mirrors.OfDisc event) is has
   by_read r after lba n shown (mirrors.Range capacity) is has = kept r after is has
   by_read r after lba n shown _ is has = absurd is
 
-  by_other : (r after : MirrorRegister) (event : MirrorEvent) → AfterOther r event after → HasSettled r bytes → HasSettled after bytes
+  by_other : (r after : MirrorRegister) (event : MirrorEvent) → OnOther r event after → HasSettledOn r bytes → HasSettledOn after bytes
   by_other r after mirrors.Good is has = kept r after is has
   by_other r after (mirrors.Unread named) is has = kept r after is has
   by_other r after (mirrors.NoSpare named) is has = kept r after is has
@@ -68,23 +68,23 @@ module _ (at : ℕ) (bytes : List ℕ) where
   by_other r after (mirrors.Range capacity) is has = kept r after is has
   by_other r after _ is has = absurd is
 
-  by_write : (r after : MirrorRegister) (sent : List ℕ) (event : MirrorEvent) (among : Bool) → among ≡ false → MatchBool among (AfterWrite at r sent event after) (AfterOther r event after) → HasSettled r bytes → HasSettled after bytes
+  by_write : (r after : MirrorRegister) (sent : List ℕ) (event : MirrorEvent) (among : Bool) → among ≡ false → MatchBool among (OnWrite at r sent event after) (OnOther r event after) → HasSettledOn r bytes → HasSettledOn after bytes
   by_write r after sent event true is p has = absurd (let w = is in cc)
   by_write r after sent event false is p has = by_other r after event p has
 
-  by_resync : (r after : MirrorRegister) (event : MirrorEvent) → AfterResync r event after → HasSettled r bytes → HasSettled after bytes
+  by_resync : (r after : MirrorRegister) (event : MirrorEvent) → OnResync r event after → HasSettledOn r bytes → HasSettledOn after bytes
   by_resync r after (mirrors.Left count) is has = kept r after is has
   by_resync r after (mirrors.OfDisc event) is has = by_refusal r after (mirrors.OfDisc event) is has
   by_resync r after (mirrors.Range capacity) is has = kept r after is has
   by_resync r after _ is has = absurd is
 
-  by_lead : (r after : MirrorRegister) (event : MirrorEvent) → AfterLead r event after → HasSettled r bytes → HasSettled after bytes
+  by_lead : (r after : MirrorRegister) (event : MirrorEvent) → OnLead r event after → HasSettledOn r bytes → HasSettledOn after bytes
   by_lead r after (mirrors.Leads on_a) is has = kept r after is.1 has
   by_lead r after mirrors.Unknown is has = kept r after is.1 has
   by_lead r after _ is has = absurd is
 
-  by_line : (r after : MirrorRegister) (line : MirrorLine) (payload : List ℕ) (event : MirrorEvent) (shown : List ℕ) → LeavesSector at line → told.Event event ≢ told.Event mirrors.Unknown
-      → AfterLine at r line payload event shown after → HasSettled r bytes → HasSettled after bytes
+  by_line : (r after : MirrorRegister) (line : MirrorLine) (payload : List ℕ) (event : MirrorEvent) (shown : List ℕ) → KeepsOneSector at line → told.Event event ≢ told.Event mirrors.Unknown
+      → OnLine at r line payload event shown after → HasSettledOn r bytes → HasSettledOn after bytes
   by_line r after lines.Empty payload event shown leaves leads is has = absurd is
   by_line r after (lines.Press zones scale psa) payload event shown leaves leads is has = absurd leaves
   by_line r after lines.Power payload event shown leaves leads is has = by_power r after event leads is has
@@ -98,32 +98,32 @@ module _ (at : ℕ) (bytes : List ℕ) where
   by_line r after (lines.Wear on_a block n) payload event shown leaves leads is has = kept r after is has
   by_line r after (lines.Cut on_a n fate) payload event shown leaves leads is has = kept r after is has
 
-  by_turn : (r after : MirrorRegister) (line : MirrorLine) (payload : List ℕ) (reply : Told) (shown : List ℕ) → LeavesSector at line → reply ≢ told.Event mirrors.Unknown
-      → MirrorTurn at r line payload reply shown after → HasSettled r bytes → HasSettled after bytes
+  by_turn : (r after : MirrorRegister) (line : MirrorLine) (payload : List ℕ) (reply : Told) (shown : List ℕ) → KeepsOneSector at line → reply ≢ told.Event mirrors.Unknown
+      → MirrorTurn at r line payload reply shown after → HasSettledOn r bytes → HasSettledOn after bytes
   by_turn r after line payload told.Nothing shown leaves leads is has = kept r after is.1 has
   by_turn r after line payload (told.Event event) shown leaves leads is has = by_line r after line payload event shown leaves leads is has
 
-pub stays_settled : (at : ℕ) (bytes : List ℕ) (r after : MirrorRegister) (events : List MirrorAnswered) → MirrorTurns at r events after → LeaveSector at events → HasSettled r bytes → HasSettled after bytes
+pub stays_settled : (at : ℕ) (bytes : List ℕ) (r after : MirrorRegister) (events : List MirrorAnswered) → MirrorTurns at r events after → KeepSector at events → HasSettledOn r bytes → HasSettledOn after bytes
 stays_settled at bytes r after [] turns leaves has = kept at bytes r after turns has
 stays_settled at bytes r after (event ∷ events) turns leaves has =
     by_turn at bytes turns.0 after event.line event.payload event.told event.bytes leaves.1 leaves.2 turns.2 (stays_settled at bytes r turns.0 events turns.1 leaves.0 has)
 
 -- a good write
 pub settles : (at : ℕ) (r after : MirrorRegister) (event : MirrorAnswered) (lba n : ℕ) → MirrorTurn at r event.line event.payload event.told event.bytes after → event.line ≡ lines.Write lba n → event.told ≡ told.Event mirrors.Good
-    → is_sector_among lba n at ≡ true → HasSettled after (bytes_of_sector lba event.payload at)
+    → is_sector_among lba n at ≡ true → HasSettledOn after (bytes_of_sector lba event.payload at)
 settles at r after event lba n turn line_is told_is among =
     let same : MirrorTurn at r (lines.Write lba n) event.payload (told.Event mirrors.Good) event.bytes after =
     subst (λ (x : Told). MirrorTurn at r (lines.Write lba n) event.payload x event.bytes after) told_is
     (subst (λ (l : MirrorLine). MirrorTurn at r l event.payload event.told event.bytes after) line_is turn) in
     go (is_sector_among lba n at) among same
   where
-    go : (b : Bool) → b ≡ true → MatchBool b (after ≡ settled r (Bytes (bytes_of_sector lba event.payload at))) (after ≡ r) → HasSettled after (bytes_of_sector lba event.payload at)
-    go true is wrote = kept at (bytes_of_sector lba event.payload at) (settled r (Bytes (bytes_of_sector lba event.payload at))) after wrote (now_one at (bytes_of_sector lba event.payload at) r (Bytes (bytes_of_sector lba event.payload at)) refl)
+    go : (b : Bool) → b ≡ true → MatchBool b (after ≡ settled_at r (Bytes (bytes_of_sector lba event.payload at))) (after ≡ r) → HasSettledOn after (bytes_of_sector lba event.payload at)
+    go true is wrote = kept at (bytes_of_sector lba event.payload at) (settled_at r (Bytes (bytes_of_sector lba event.payload at))) after wrote (now_one at (bytes_of_sector lba event.payload at) r (Bytes (bytes_of_sector lba event.payload at)) refl)
     go false is left = absurd (let w = is in cc)
 
 -- a good read
 read_turn : (at : ℕ) (r after : MirrorRegister) (event : MirrorAnswered) (lba n first : ℕ) → MirrorTurn at r event.line event.payload event.told event.bytes after → event.line ≡ lines.Read lba n → event.told ≡ told.Event (mirrors.Shows first)
-    → Shows at r lba n event.bytes
+    → GivesSector at r lba n event.bytes
 read_turn at r after event lba n first turn line_is told_is =
     let same : MirrorTurn at r (lines.Read lba n) event.payload (told.Event (mirrors.Shows first)) event.bytes after =
     subst (λ (x : Told). MirrorTurn at r (lines.Read lba n) event.payload x event.bytes after) told_is
@@ -133,7 +133,7 @@ same_bytes : (a b : List ℕ) → Bytes a ≡ Bytes b → a ≡ b
 same_bytes a b is = cc
 
 pub shows_settled : (at : ℕ) (r after : MirrorRegister) (event : MirrorAnswered) (lba n first : ℕ) (bytes : List ℕ) → MirrorTurn at r event.line event.payload event.told event.bytes after → event.line ≡ lines.Read lba n
-    → event.told ≡ told.Event (mirrors.Shows first) → is_sector_among lba n at ≡ true → HasSettled r bytes → bytes_of_sector lba event.bytes at ≡ bytes
+    → event.told ≡ told.Event (mirrors.Shows first) → is_sector_among lba n at ≡ true → HasSettledOn r bytes → bytes_of_sector lba event.bytes at ≡ bytes
 shows_settled at r after event lba n first bytes turn line_is told_is among has =
     let shown = read_turn at r after event lba n first turn line_is told_is in
     same_bytes (bytes_of_sector lba event.bytes at) bytes (has.shows (Bytes (bytes_of_sector lba event.bytes at)) (shown.shown among))

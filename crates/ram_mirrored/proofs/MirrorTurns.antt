@@ -34,7 +34,7 @@ use Rattle.ram_machine.proofs.SectorBoth.{one_lost, other_lost}
 use Rattle.ram_pair.specs.Told.{read_told, write_told, format_told, resync_told}
 use Rattle.ram_pair.specs.PairStates.{MayBe}
 use Rattle.ram_pair.specs.PairLines.{Leads}
-use Rattle.ram_mirrored.specs.MirrorRegister.{MirrorRegister, settled, or_else, gone, emptied, written_before, AfterRead, AfterWrite, AfterOther, AfterFormat, AfterResync}
+use Rattle.ram_mirrored.specs.MirrorRegister.{MirrorRegister, settled_at, or_later, has_none, emptied, written_before, OnRead, OnWrite, OnOther, OnFormat, OnResync}
 use Rattle.ram_mirrored.proofs.MirrorSectors.{now_at, FallTo, Fits, Held, HeldBoth, MatchesMirror, Turned, match_led, shown_value, KnowsAll, by_one, by_other, fits_same, fits_off, found_some, found_none, fits_two, fall_more, fall_short, fall_one, unreached, reached, either, zeros_sector, is_among, is_beside, sector_among, has_sectors}
 
 -- what a call leaves of what a mirror stood for that wrote nothing: the same; or its discs, where it was stopped
@@ -128,9 +128,9 @@ module _ (at : ℕ) (old new : MirrorShown) (r : MirrorRegister) where
           ∙ ap Some (sym (sector_among disc lba n at from past) ∙ ap (λ (b : List ℕ). bytes_of_sector lba b at) (sym step.0))
       shown_in whole from past (Off discs) t step = absurd step
 
-      pub read_turn : (out : ReadOut) → length bytes ≡ 2048 * n → Leads old new (λ s t. ReadStep (λ x. x ≡ t) s lba n bytes out) → Turned at new (λ after. AfterRead at r lba n bytes (read_told lba out) after)
+      pub read_turn : (out : ReadOut) → length bytes ≡ 2048 * n → Leads old new (λ s t. ReadStep (λ x. x ≡ t) s lba n bytes out) → Turned at new (λ after. OnRead at r lba n bytes (read_told lba out) after)
       read_turn reads.Good whole leads =
-          to (λ after. AfterRead at r lba n bytes (read_told lba reads.Good) after) r (refl, record { whole = whole; shown = shown }, refl) refl
+          to (λ after. OnRead at r lba n bytes (read_told lba reads.Good) after) r (refl, record { whole = whole; shown = shown }, refl) refl
           (moved (λ s t. ReadStep (λ x. x ≡ t) s lba n bytes reads.Good) leads r (λ lost s t may step was. fits_same lost at s t r (good_left s t step) was) both)
         where
           in_one : (lost : List ℕ) → Held lost at old r → is_sector_among lba n at ≡ true → now_under lost r.now ≡ Some (bytes_of_sector lba bytes at)
@@ -144,12 +144,12 @@ module _ (at : ℕ) (old new : MirrorShown) (r : MirrorRegister) where
       read_turn reads.NotFormatted whole leads = to (λ after. after ≡ r) r refl refl (moved (λ s t. ReadStep (λ x. x ≡ t) s lba n bytes reads.NotFormatted) leads r (λ lost s t may step was. fits_same lost at s t r (bare_left s t step) was) both)
       read_turn (reads.Range capacity) whole leads = to (λ after. after ≡ r) r refl refl (moved (λ s t. ReadStep (λ x. x ≡ t) s lba n bytes (reads.Range capacity)) leads r (λ lost s t may step was. fits_same lost at s t r (range_left capacity s t step) was) both)
       read_turn (reads.Unread named block) whole leads = to (λ after. after ≡ r) r refl refl (moved (λ s t. ReadStep (λ x. x ≡ t) s lba n bytes (reads.Unread named block)) leads r (λ lost s t may step was. fits_same lost at s t r (unread_left named block s t step) was) both)
-      read_turn reads.Cut whole leads = to (λ after. after ≡ gone r) (gone r) refl refl (moved (λ s t. ReadStep (λ x. x ≡ t) s lba n bytes reads.Cut) leads (gone r) (λ lost s t may step was. fits_off lost at s t r (cut_left s t step) was) both)
+      read_turn reads.Cut whole leads = to (λ after. after ≡ has_none r) (has_none r) refl refl (moved (λ s t. ReadStep (λ x. x ≡ t) s lba n bytes reads.Cut) leads (has_none r) (λ lost s t may step was. fits_off lost at s t r (cut_left s t step) was) both)
       read_turn reads.Off whole leads = to (λ after. after ≡ r) r refl refl (moved (λ s t. ReadStep (λ x. x ≡ t) s lba n bytes reads.Off) leads r (λ lost s t may step was. fits_same lost at s t r (off_left s t step) was) both)
-      read_turn reads.Fault whole leads = to (λ after. after ≡ gone r) (gone r) refl refl (moved (λ s t. ReadStep (λ x. x ≡ t) s lba n bytes reads.Fault) leads (gone r) (λ lost s t may step was. fits_off lost at s t r (fault_left s t step) was) both)
+      read_turn reads.Fault whole leads = to (λ after. after ≡ has_none r) (has_none r) refl refl (moved (λ s t. ReadStep (λ x. x ≡ t) s lba n bytes reads.Fault) leads (has_none r) (λ lost s t may step was. fits_off lost at s t r (fault_left s t step) was) both)
 
     -- ---- a resynchronisation
-    pub resync_turn : (out : Resync) → Leads old new (λ s t. ResyncStep (λ x. x ≡ t) s out) → Turned at new (λ after. AfterResync r (resync_told out) after)
+    pub resync_turn : (out : Resync) → Leads old new (λ s t. ResyncStep (λ x. x ≡ t) s out) → Turned at new (λ after. OnResync r (resync_told out) after)
     resync_turn (resyncs.Done count) leads = to (λ after. after ≡ r) r refl refl (moved (λ s t. ResyncStep (λ x. x ≡ t) s (resyncs.Done count)) leads r (λ lost s t may step was. fits_same lost at s t r (done s t step) was) both)
       where
         done : (s t : Standing) → ResyncStep (λ x. x ≡ t) s (resyncs.Done count) → s ≡ t
@@ -160,7 +160,7 @@ module _ (at : ℕ) (old new : MirrorShown) (r : MirrorRegister) where
         bare : (s t : Standing) → ResyncStep (λ x. x ≡ t) s resyncs.NotFormatted → s ≡ t
         bare (On disc) t step = step.1
         bare (Off discs) t step = absurd step
-    resync_turn resyncs.Cut leads = to (λ after. after ≡ gone r) (gone r) refl refl (moved (λ s t. ResyncStep (λ x. x ≡ t) s resyncs.Cut) leads (gone r) (λ lost s t may step was. fits_off lost at s t r (cut s t step) was) both)
+    resync_turn resyncs.Cut leads = to (λ after. after ≡ has_none r) (has_none r) refl refl (moved (λ s t. ResyncStep (λ x. x ≡ t) s resyncs.Cut) leads (has_none r) (λ lost s t may step was. fits_off lost at s t r (cut s t step) was) both)
       where
         cut : (s t : Standing) → ResyncStep (λ x. x ≡ t) s resyncs.Cut → Off (candidates s) ≡ t
         cut (On disc) t step = step
@@ -170,14 +170,14 @@ module _ (at : ℕ) (old new : MirrorShown) (r : MirrorRegister) where
         off : (s t : Standing) → ResyncStep (λ x. x ≡ t) s resyncs.Off → s ≡ t
         off (On disc) t step = absurd step
         off (Off discs) t step = step
-    resync_turn resyncs.Fault leads = to (λ after. after ≡ gone r) (gone r) refl refl (moved (λ s t. ResyncStep (λ x. x ≡ t) s resyncs.Fault) leads (gone r) (λ lost s t may step was. fits_off lost at s t r (cut s t step) was) both)
+    resync_turn resyncs.Fault leads = to (λ after. after ≡ has_none r) (has_none r) refl refl (moved (λ s t. ResyncStep (λ x. x ≡ t) s resyncs.Fault) leads (has_none r) (λ lost s t may step was. fits_off lost at s t r (cut s t step) was) both)
       where
         cut : (s t : Standing) → ResyncStep (λ x. x ≡ t) s resyncs.Fault → Off (candidates s) ≡ t
         cut (On disc) t step = step
         cut (Off discs) t step = absurd step
 
     -- ---- a format
-    zeros_fit : (lost : List ℕ) (shape : Shape) → 2048 * (at + 1) ≤ length (zero_disc shape) → Fits lost at (On (zero_disc shape)) (settled r (Bytes (zeros 2048)))
+    zeros_fit : (lost : List ℕ) (shape : Shape) → 2048 * (at + 1) ≤ length (zero_disc shape) → Fits lost at (On (zero_disc shape)) (settled_at r (Bytes (zeros 2048)))
     zeros_fit lost shape inside =
         found_some lost at (zero_disc shape) r (Bytes (zeros 2048)) inside
         (sym (zeros_sector at (32768 * count_of shape 0) (let long = length-zeros (32768 * count_of shape 0) in omega (arith, inside, long))))
@@ -196,30 +196,30 @@ module _ (at : ℕ) (old new : MirrorShown) (r : MirrorRegister) where
     short_zeros : 0 < 2048 * (at + 1)
     short_zeros = omega arith
 
-    good_format : Leads old new (FormatTo formats.Good) → Turned at new (λ after. (after ≡ settled r (Bytes (zeros 2048))) ⊎ (after ≡ emptied r))
+    good_format : Leads old new (FormatTo formats.Good) → Turned at new (λ after. (after ≡ settled_at r (Bytes (zeros 2048))) ⊎ (after ≡ emptied r))
     good_format leads = elim (cases_lt (length (zero_disc old.lead.shape)) (2048 * (at + 1))) [
-      | inl past ↦ to (λ after. (after ≡ settled r (Bytes (zeros 2048))) ⊎ (after ≡ emptied r)) (emptied r) (inr refl) refl (moved (FormatTo formats.Good) leads (emptied r) (none past) both)
-      | inr inside ↦ to (λ after. (after ≡ settled r (Bytes (zeros 2048))) ⊎ (after ≡ emptied r)) (settled r (Bytes (zeros 2048))) (inl refl) refl (moved (FormatTo formats.Good) leads (settled r (Bytes (zeros 2048))) (some inside) both)
+      | inl past ↦ to (λ after. (after ≡ settled_at r (Bytes (zeros 2048))) ⊎ (after ≡ emptied r)) (emptied r) (inr refl) refl (moved (FormatTo formats.Good) leads (emptied r) (none past) both)
+      | inr inside ↦ to (λ after. (after ≡ settled_at r (Bytes (zeros 2048))) ⊎ (after ≡ emptied r)) (settled_at r (Bytes (zeros 2048))) (inl refl) refl (moved (FormatTo formats.Good) leads (settled_at r (Bytes (zeros 2048))) (some inside) both)
     ]
       where
         none : length (zero_disc old.lead.shape) < 2048 * (at + 1) → (lost : List ℕ) (s t : Standing) → MayBe old s → FormatTo formats.Good s t → Fits lost at s r → Fits lost at t (emptied r)
         none past lost (On disc) t may step was = subst (λ (x : Standing). Fits lost at x (emptied r)) step (found_none lost at (zero_disc old.lead.shape) r past)
         none past lost (Off discs) t may step was = absurd step
 
-        some : 2048 * (at + 1) ≤ length (zero_disc old.lead.shape) → (lost : List ℕ) (s t : Standing) → MayBe old s → FormatTo formats.Good s t → Fits lost at s r → Fits lost at t (settled r (Bytes (zeros 2048)))
-        some inside lost (On disc) t may step was = subst (λ (x : Standing). Fits lost at x (settled r (Bytes (zeros 2048)))) step (zeros_fit lost old.lead.shape inside)
+        some : 2048 * (at + 1) ≤ length (zero_disc old.lead.shape) → (lost : List ℕ) (s t : Standing) → MayBe old s → FormatTo formats.Good s t → Fits lost at s r → Fits lost at t (settled_at r (Bytes (zeros 2048)))
+        some inside lost (On disc) t may step was = subst (λ (x : Standing). Fits lost at x (settled_at r (Bytes (zeros 2048)))) step (zeros_fit lost old.lead.shape inside)
         some inside lost (Off discs) t may step was = absurd step
 
     -- it may have come so far or not
-    cut_fits : (lost : List ℕ) (disc : List ℕ) (t : Standing) → Fits lost at (On disc) r → ((Off (disc ∷ [] ∷ []) ≡ t) ⊎ (Off ([] ∷ []) ≡ t) ⊎ (Off ([] ∷ zero_disc old.lead.shape ∷ []) ≡ t)) → Fits lost at t (gone (or_else r (Bytes (zeros 2048))))
-    cut_fits lost disc t was (inl is) = subst (λ (x : Standing). Fits lost at x (gone (or_else r (Bytes (zeros 2048))))) is
-        (fits_two lost at disc [] (or_else r (Bytes (zeros 2048))) (fall_more lost at (Bytes (zeros 2048)) r.falls (disc ∷ []) was.falls) (fall_short lost at (zeros 2048 ∷ falls_under lost r.falls) [] short_zeros))
-    cut_fits lost disc t was (inr (inl is)) = subst (λ (x : Standing). Fits lost at x (gone (or_else r (Bytes (zeros 2048))))) is
+    cut_fits : (lost : List ℕ) (disc : List ℕ) (t : Standing) → Fits lost at (On disc) r → ((Off (disc ∷ [] ∷ []) ≡ t) ⊎ (Off ([] ∷ []) ≡ t) ⊎ (Off ([] ∷ zero_disc old.lead.shape ∷ []) ≡ t)) → Fits lost at t (has_none (or_later r (Bytes (zeros 2048))))
+    cut_fits lost disc t was (inl is) = subst (λ (x : Standing). Fits lost at x (has_none (or_later r (Bytes (zeros 2048))))) is
+        (fits_two lost at disc [] (or_later r (Bytes (zeros 2048))) (fall_more lost at (Bytes (zeros 2048)) r.falls (disc ∷ []) was.falls) (fall_short lost at (zeros 2048 ∷ falls_under lost r.falls) [] short_zeros))
+    cut_fits lost disc t was (inr (inl is)) = subst (λ (x : Standing). Fits lost at x (has_none (or_later r (Bytes (zeros 2048))))) is
         (record { now = refl; falls = fall_short lost at (zeros 2048 ∷ falls_under lost r.falls) [] short_zeros })
-    cut_fits lost disc t was (inr (inr is)) = subst (λ (x : Standing). Fits lost at x (gone (or_else r (Bytes (zeros 2048))))) is
-        (fits_two lost at [] (zero_disc old.lead.shape) (or_else r (Bytes (zeros 2048))) (fall_short lost at (zeros 2048 ∷ falls_under lost r.falls) [] short_zeros) (zeros_fall lost old.lead.shape))
+    cut_fits lost disc t was (inr (inr is)) = subst (λ (x : Standing). Fits lost at x (has_none (or_later r (Bytes (zeros 2048))))) is
+        (fits_two lost at [] (zero_disc old.lead.shape) (or_later r (Bytes (zeros 2048))) (fall_short lost at (zeros 2048 ∷ falls_under lost r.falls) [] short_zeros) (zeros_fall lost old.lead.shape))
 
-    pub format_turn : (out : FormatOut) → Leads old new (FormatTo out) → Turned at new (λ after. AfterFormat r (format_told out) after)
+    pub format_turn : (out : FormatOut) → Leads old new (FormatTo out) → Turned at new (λ after. OnFormat r (format_told out) after)
     format_turn formats.Good leads = good_format leads
     format_turn (formats.TooMany found) leads = to (λ after. after ≡ emptied r) (emptied r) refl refl (moved (FormatTo (formats.TooMany found)) leads (emptied r) each both)
       where
@@ -235,9 +235,9 @@ module _ (at : ℕ) (old new : MirrorShown) (r : MirrorRegister) where
         each lost (On disc) t may (inl kept) was = inl (fits_same lost at (On disc) t r kept.1 was)
         each lost (On disc) t may (inr none) was = inr (subst (λ (x : Standing). Fits lost at x (emptied r)) none.1 (found_none lost at [] r short_zeros))
         each lost (Off discs) t may step was = absurd step
-    format_turn formats.Cut leads = to (λ after. after ≡ gone (or_else r (Bytes (zeros 2048)))) (gone (or_else r (Bytes (zeros 2048)))) refl refl (moved (FormatTo formats.Cut) leads (gone (or_else r (Bytes (zeros 2048)))) each both)
+    format_turn formats.Cut leads = to (λ after. after ≡ has_none (or_later r (Bytes (zeros 2048)))) (has_none (or_later r (Bytes (zeros 2048)))) refl refl (moved (FormatTo formats.Cut) leads (has_none (or_later r (Bytes (zeros 2048)))) each both)
       where
-        each : (lost : List ℕ) (s t : Standing) → MayBe old s → FormatTo formats.Cut s t → Fits lost at s r → Fits lost at t (gone (or_else r (Bytes (zeros 2048))))
+        each : (lost : List ℕ) (s t : Standing) → MayBe old s → FormatTo formats.Cut s t → Fits lost at s r → Fits lost at t (has_none (or_later r (Bytes (zeros 2048))))
         each lost (On disc) t may step was = cut_fits lost disc t was step
         each lost (Off discs) t may step was = absurd step
     format_turn formats.Off leads = to (λ after. after ≡ r) r refl refl (moved (FormatTo formats.Off) leads r each both)
@@ -245,9 +245,9 @@ module _ (at : ℕ) (old new : MirrorShown) (r : MirrorRegister) where
         each : (lost : List ℕ) (s t : Standing) → MayBe old s → FormatTo formats.Off s t → Fits lost at s r → Fits lost at t r
         each lost (On disc) t may step was = absurd step
         each lost (Off discs) t may step was = fits_same lost at (Off discs) t r step was
-    format_turn formats.Fault leads = to (λ after. after ≡ gone (or_else r (Bytes (zeros 2048)))) (gone (or_else r (Bytes (zeros 2048)))) refl refl (moved (FormatTo formats.Fault) leads (gone (or_else r (Bytes (zeros 2048)))) each both)
+    format_turn formats.Fault leads = to (λ after. after ≡ has_none (or_later r (Bytes (zeros 2048)))) (has_none (or_later r (Bytes (zeros 2048)))) refl refl (moved (FormatTo formats.Fault) leads (has_none (or_later r (Bytes (zeros 2048)))) each both)
       where
-        each : (lost : List ℕ) (s t : Standing) → MayBe old s → FormatTo formats.Fault s t → Fits lost at s r → Fits lost at t (gone (or_else r (Bytes (zeros 2048))))
+        each : (lost : List ℕ) (s t : Standing) → MayBe old s → FormatTo formats.Fault s t → Fits lost at s r → Fits lost at t (has_none (or_later r (Bytes (zeros 2048))))
         each lost (On disc) t may step was = cut_fits lost disc t was step
         each lost (Off discs) t may step was = absurd step
 
@@ -280,11 +280,11 @@ module _ (at : ℕ) (old new : MirrorShown) (r : MirrorRegister) where
         beside_at : (lost : List ℕ) (disc : List ℕ) (t : Standing) (b : ℕ) → LiesIn disc lba n payload → Fits lost at (On disc) r → On (replaced disc lba payload b) ≡ t → Fits lost at t r
         beside_at lost disc t b lies was is = fits_same lost at (On (replaced disc lba payload b)) t r is (unreached lost at lba n payload disc r lies was b (aside b))
 
-        beside_cut : (lost : List ℕ) (disc : List ℕ) (t : Standing) (b c : ℕ) → LiesIn disc lba n payload → Fits lost at (On disc) r → Off (replaced disc lba payload b ∷ replaced disc lba payload c ∷ []) ≡ t → Fits lost at t (gone r)
-        beside_cut lost disc t b c lies was is = subst (λ (x : Standing). Fits lost at x (gone r)) is
+        beside_cut : (lost : List ℕ) (disc : List ℕ) (t : Standing) (b c : ℕ) → LiesIn disc lba n payload → Fits lost at (On disc) r → Off (replaced disc lba payload b ∷ replaced disc lba payload c ∷ []) ≡ t → Fits lost at t (has_none r)
+        beside_cut lost disc t b c lies was is = subst (λ (x : Standing). Fits lost at x (has_none r)) is
             (fits_two lost at (replaced disc lba payload b) (replaced disc lba payload c) r (unreached lost at lba n payload disc r lies was b (aside b)).falls (unreached lost at lba n payload disc r lies was c (aside c)).falls)
 
-        beside_turn : (out : WriteOut) → LiesFor old lba n payload out → Leads old new (WriteTo out) → Turned at new (λ after. AfterOther r (write_told out) after)
+        beside_turn : (out : WriteOut) → LiesFor old lba n payload out → Leads old new (WriteTo out) → Turned at new (λ after. OnOther r (write_told out) after)
         beside_turn writes.Good lies leads = to (λ after. after ≡ r) r refl refl (moved (WriteTo writes.Good) leads r each both)
           where
             each : (lost : List ℕ) (s t : Standing) → MayBe old s → WriteTo writes.Good s t → Fits lost at s r → Fits lost at t r
@@ -307,15 +307,15 @@ module _ (at : ℕ) (old new : MirrorShown) (r : MirrorRegister) where
             each : (lost : List ℕ) (s t : Standing) → MayBe old s → WriteTo (writes.NoUpdate counter) s t → Fits lost at s r → Fits lost at t r
             each lost (On disc) t may step was = beside_at lost disc t (block_with lba + step.block) (lies disc may) was step.before
             each lost (Off discs) t may step was = absurd step
-        beside_turn writes.Cut lies leads = to (λ after. after ≡ gone r) (gone r) refl refl (moved (WriteTo writes.Cut) leads (gone r) each both)
+        beside_turn writes.Cut lies leads = to (λ after. after ≡ has_none r) (has_none r) refl refl (moved (WriteTo writes.Cut) leads (has_none r) each both)
           where
-            each : (lost : List ℕ) (s t : Standing) → MayBe old s → WriteTo writes.Cut s t → Fits lost at s r → Fits lost at t (gone r)
+            each : (lost : List ℕ) (s t : Standing) → MayBe old s → WriteTo writes.Cut s t → Fits lost at s r → Fits lost at t (has_none r)
             each lost (On disc) t may step was = beside_cut lost disc t (block_with lba + step.block) (block_with lba + (step.block + 1)) (lies disc may) was step.either
             each lost (Off discs) t may step was = absurd step
         beside_turn writes.Off lies leads = to (λ after. after ≡ r) r refl refl (moved (WriteTo writes.Off) leads r (λ lost s t may step was. fits_same lost at s t r (write_off s t step) was) both)
-        beside_turn writes.Fault lies leads = to (λ after. after ≡ gone r) (gone r) refl refl (moved (WriteTo writes.Fault) leads (gone r) each both)
+        beside_turn writes.Fault lies leads = to (λ after. after ≡ has_none r) (has_none r) refl refl (moved (WriteTo writes.Fault) leads (has_none r) each both)
           where
-            each : (lost : List ℕ) (s t : Standing) → MayBe old s → WriteTo writes.Fault s t → Fits lost at s r → Fits lost at t (gone r)
+            each : (lost : List ℕ) (s t : Standing) → MayBe old s → WriteTo writes.Fault s t → Fits lost at s r → Fits lost at t (has_none r)
             each lost (On disc) t may step was = beside_cut lost disc t (block_with lba + step.block) (block_with lba + (step.block + 1)) (lies disc may) was step.either
             each lost (Off discs) t may step was = absurd step
 
@@ -325,34 +325,34 @@ module _ (at : ℕ) (old new : MirrorShown) (r : MirrorRegister) where
         end_behind = let all = covered_all lba n (omega (arith, from, past)) in omega (arith, past, all)
 
         -- the blocks before this one were written
-        up_to : (lost : List ℕ) (disc : List ℕ) (t : Standing) (b : ℕ) → LiesIn disc lba n payload → Fits lost at (On disc) r → On (replaced disc lba payload b) ≡ t → Fits lost at t (if nat_lt at (16 * b) then settled r new_value else r)
+        up_to : (lost : List ℕ) (disc : List ℕ) (t : Standing) (b : ℕ) → LiesIn disc lba n payload → Fits lost at (On disc) r → On (replaced disc lba payload b) ≡ t → Fits lost at t (if nat_lt at (16 * b) then settled_at r new_value else r)
         up_to lost disc t b lies was is = elim (cases_lt at (16 * b)) [
-          | inl before ↦ subst (λ (c : Bool). Fits lost at t (if c then settled r new_value else r)) (sym (lt-ltb at (16 * b) before)) (fits_as (settled r new_value) (reached lost at lba n payload disc r lies was from past b before))
-          | inr behind ↦ subst (λ (c : Bool). Fits lost at t (if c then settled r new_value else r)) (sym (le-ltb at (16 * b) behind)) (fits_as r (unreached lost at lba n payload disc r lies was b (inr (inr behind))))
+          | inl before ↦ subst (λ (c : Bool). Fits lost at t (if c then settled_at r new_value else r)) (sym (lt-ltb at (16 * b) before)) (fits_as (settled_at r new_value) (reached lost at lba n payload disc r lies was from past b before))
+          | inr behind ↦ subst (λ (c : Bool). Fits lost at t (if c then settled_at r new_value else r)) (sym (le-ltb at (16 * b) behind)) (fits_as r (unreached lost at lba n payload disc r lies was b (inr (inr behind))))
         ]
           where
             fits_as : (x : MirrorRegister) → Fits lost at (On (replaced disc lba payload b)) x → Fits lost at t x
             fits_as x fits = fits_same lost at (On (replaced disc lba payload b)) t x is fits
 
-        old_or_new : (lost : List ℕ) (disc : List ℕ) (t : Standing) (b : ℕ) → LiesIn disc lba n payload → Fits lost at (On disc) r → On (replaced disc lba payload b) ≡ t → Fits lost at t r ⊎ Fits lost at t (settled r new_value)
+        old_or_new : (lost : List ℕ) (disc : List ℕ) (t : Standing) (b : ℕ) → LiesIn disc lba n payload → Fits lost at (On disc) r → On (replaced disc lba payload b) ≡ t → Fits lost at t r ⊎ Fits lost at t (settled_at r new_value)
         old_or_new lost disc t b lies was is = elim (cases_lt at (16 * b)) [
-          | inl before ↦ inr (fits_same lost at (On (replaced disc lba payload b)) t (settled r new_value) is (reached lost at lba n payload disc r lies was from past b before))
+          | inl before ↦ inr (fits_same lost at (On (replaced disc lba payload b)) t (settled_at r new_value) is (reached lost at lba n payload disc r lies was from past b before))
           | inr behind ↦ inl (fits_same lost at (On (replaced disc lba payload b)) t r is (unreached lost at lba n payload disc r lies was b (inr (inr behind))))
         ]
 
-        cut_either : (lost : List ℕ) (disc : List ℕ) (t : Standing) (b c : ℕ) → LiesIn disc lba n payload → Fits lost at (On disc) r → Off (replaced disc lba payload b ∷ replaced disc lba payload c ∷ []) ≡ t → Fits lost at t (gone (or_else r new_value))
-        cut_either lost disc t b c lies was is = subst (λ (x : Standing). Fits lost at x (gone (or_else r new_value))) is
-            (fits_two lost at (replaced disc lba payload b) (replaced disc lba payload c) (or_else r new_value) (either lost at lba n payload disc r lies was from past b) (either lost at lba n payload disc r lies was from past c))
+        cut_either : (lost : List ℕ) (disc : List ℕ) (t : Standing) (b c : ℕ) → LiesIn disc lba n payload → Fits lost at (On disc) r → Off (replaced disc lba payload b ∷ replaced disc lba payload c ∷ []) ≡ t → Fits lost at t (has_none (or_later r new_value))
+        cut_either lost disc t b c lies was is = subst (λ (x : Standing). Fits lost at x (has_none (or_later r new_value))) is
+            (fits_two lost at (replaced disc lba payload b) (replaced disc lba payload c) (or_later r new_value) (either lost at lba n payload disc r lies was from past b) (either lost at lba n payload disc r lies was from past c))
 
-        same_led : (c : Bool) → (if c then settled r new_value else r).led ≡ r.led
+        same_led : (c : Bool) → (if c then settled_at r new_value else r).led ≡ r.led
         same_led true = refl
         same_led false = refl
 
-        write_turn : (out : WriteOut) → LiesFor old lba n payload out → Leads old new (WriteTo out) → Turned at new (λ after. AfterWrite at r (bytes_of_sector lba payload at) (write_told out) after)
-        write_turn writes.Good lies leads = to (λ after. after ≡ settled r new_value) (settled r new_value) refl refl (moved (WriteTo writes.Good) leads (settled r new_value) each both)
+        write_turn : (out : WriteOut) → LiesFor old lba n payload out → Leads old new (WriteTo out) → Turned at new (λ after. OnWrite at r (bytes_of_sector lba payload at) (write_told out) after)
+        write_turn writes.Good lies leads = to (λ after. after ≡ settled_at r new_value) (settled_at r new_value) refl refl (moved (WriteTo writes.Good) leads (settled_at r new_value) each both)
           where
-            each : (lost : List ℕ) (s t : Standing) → MayBe old s → WriteTo writes.Good s t → Fits lost at s r → Fits lost at t (settled r new_value)
-            each lost (On disc) t may step was = fits_same lost at (On (replaced disc lba payload (block_with lba + blocks_covered lba n))) t (settled r new_value) step
+            each : (lost : List ℕ) (s t : Standing) → MayBe old s → WriteTo writes.Good s t → Fits lost at s r → Fits lost at t (settled_at r new_value)
+            each lost (On disc) t may step was = fits_same lost at (On (replaced disc lba payload (block_with lba + blocks_covered lba n))) t (settled_at r new_value) step
                 (reached lost at lba n payload disc r (lies disc may) was from past (block_with lba + blocks_covered lba n) end_behind)
             each lost (Off discs) t may step was = absurd step
         write_turn writes.NotFormatted lies leads = to (λ after. after ≡ r) r refl refl (moved (WriteTo writes.NotFormatted) leads r (λ lost s t may step was. fits_same lost at s t r (write_bare s t step) was) both)
@@ -369,30 +369,30 @@ module _ (at : ℕ) (old new : MirrorShown) (r : MirrorRegister) where
             each : (lost : List ℕ) (s t : Standing) → MayBe old s → WriteTo (writes.NoSpare named) s t → Fits lost at s r → Fits lost at t (written_before named at r new_value)
             each lost (On disc) t may step was = up_to lost disc t (block_with named) (lies disc may) was step
             each lost (Off discs) t may step was = absurd step
-        write_turn (writes.NoUpdate counter) lies leads = elim (moved_either (WriteTo (writes.NoUpdate counter)) leads r (settled r new_value) (record { now = refl; falls = refl }) each both) [
-          | inl kept ↦ to (λ after. (after ≡ r) ⊎ (after ≡ settled r new_value)) r (inl refl) refl kept
-          | inr done ↦ to (λ after. (after ≡ r) ⊎ (after ≡ settled r new_value)) (settled r new_value) (inr refl) refl done
+        write_turn (writes.NoUpdate counter) lies leads = elim (moved_either (WriteTo (writes.NoUpdate counter)) leads r (settled_at r new_value) (record { now = refl; falls = refl }) each both) [
+          | inl kept ↦ to (λ after. (after ≡ r) ⊎ (after ≡ settled_at r new_value)) r (inl refl) refl kept
+          | inr done ↦ to (λ after. (after ≡ r) ⊎ (after ≡ settled_at r new_value)) (settled_at r new_value) (inr refl) refl done
         ]
           where
-            each : (lost : List ℕ) (s t : Standing) → MayBe old s → WriteTo (writes.NoUpdate counter) s t → Fits lost at s r → Fits lost at t r ⊎ Fits lost at t (settled r new_value)
+            each : (lost : List ℕ) (s t : Standing) → MayBe old s → WriteTo (writes.NoUpdate counter) s t → Fits lost at s r → Fits lost at t r ⊎ Fits lost at t (settled_at r new_value)
             each lost (On disc) t may step was = old_or_new lost disc t (block_with lba + step.block) (lies disc may) was step.before
             each lost (Off discs) t may step was = absurd step
-        write_turn writes.Cut lies leads = to (λ after. after ≡ gone (or_else r new_value)) (gone (or_else r new_value)) refl refl (moved (WriteTo writes.Cut) leads (gone (or_else r new_value)) each both)
+        write_turn writes.Cut lies leads = to (λ after. after ≡ has_none (or_later r new_value)) (has_none (or_later r new_value)) refl refl (moved (WriteTo writes.Cut) leads (has_none (or_later r new_value)) each both)
           where
-            each : (lost : List ℕ) (s t : Standing) → MayBe old s → WriteTo writes.Cut s t → Fits lost at s r → Fits lost at t (gone (or_else r new_value))
+            each : (lost : List ℕ) (s t : Standing) → MayBe old s → WriteTo writes.Cut s t → Fits lost at s r → Fits lost at t (has_none (or_later r new_value))
             each lost (On disc) t may step was = cut_either lost disc t (block_with lba + step.block) (block_with lba + (step.block + 1)) (lies disc may) was step.either
             each lost (Off discs) t may step was = absurd step
         write_turn writes.Off lies leads = to (λ after. after ≡ r) r refl refl (moved (WriteTo writes.Off) leads r (λ lost s t may step was. fits_same lost at s t r (write_off s t step) was) both)
-        write_turn writes.Fault lies leads = to (λ after. after ≡ gone (or_else r new_value)) (gone (or_else r new_value)) refl refl (moved (WriteTo writes.Fault) leads (gone (or_else r new_value)) each both)
+        write_turn writes.Fault lies leads = to (λ after. after ≡ has_none (or_later r new_value)) (has_none (or_later r new_value)) refl refl (moved (WriteTo writes.Fault) leads (has_none (or_later r new_value)) each both)
           where
-            each : (lost : List ℕ) (s t : Standing) → MayBe old s → WriteTo writes.Fault s t → Fits lost at s r → Fits lost at t (gone (or_else r new_value))
+            each : (lost : List ℕ) (s t : Standing) → MayBe old s → WriteTo writes.Fault s t → Fits lost at s r → Fits lost at t (has_none (or_later r new_value))
             each lost (On disc) t may step was = cut_either lost disc t (block_with lba + step.block) (block_with lba + (step.block + 1)) (lies disc may) was step.either
             each lost (Off discs) t may step was = absurd step
 
       pub any_write : (out : WriteOut) → LiesFor old lba n payload out → Leads old new (WriteTo out)
-          → Turned at new (λ after. MatchBool (is_sector_among lba n at) (AfterWrite at r (bytes_of_sector lba payload at) (write_told out) after) (AfterOther r (write_told out) after))
+          → Turned at new (λ after. MatchBool (is_sector_among lba n at) (OnWrite at r (bytes_of_sector lba payload at) (write_told out) after) (OnOther r (write_told out) after))
       any_write out lies leads = go (is_sector_among lba n at) refl
         where
-          go : (b : Bool) → is_sector_among lba n at ≡ b → Turned at new (λ after. MatchBool b (AfterWrite at r (bytes_of_sector lba payload at) (write_told out) after) (AfterOther r (write_told out) after))
+          go : (b : Bool) → is_sector_among lba n at ≡ b → Turned at new (λ after. MatchBool b (OnWrite at r (bytes_of_sector lba payload at) (write_told out) after) (OnOther r (write_told out) after))
           go true is = let among = is_among lba n at is in write_turn among.0 among.1 out lies leads
           go false is = beside_turn (is_beside lba n at is) out lies leads

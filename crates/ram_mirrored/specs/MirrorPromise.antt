@@ -23,8 +23,8 @@ pub record IsMirrorRead (event : MirrorAnswered) : Type 0 where
   pub reads : MirrorReads event.raw event.line event.payload
 
 -- the line of this number, with the text of its answer
-abbrev pub text_of : (number : ℕ) → MirrorAnswered → AnsweredText
-text_of number event = record {
+abbrev pub answered_text : (number : ℕ) → MirrorAnswered → AnsweredText
+answered_text number event = record {
   raw = event.raw;
   answers = if is_answer event.told then 1 else 0;
   text = told_text number event.told event.bytes;
@@ -33,7 +33,7 @@ text_of number event = record {
 -- the same of all lines
 abbrev pub texts_of : List MirrorAnswered → List AnsweredText
 texts_of [] = []
-texts_of (event ∷ events) = text_of (length events + 1) event ∷ texts_of events
+texts_of (event ∷ events) = answered_text (length events + 1) event ∷ texts_of events
 
 -- A line that makes a block fail was told as a cut: the image failed in it, and its count of failures stands at its end, so that no count
 -- rose; else the run ends there.

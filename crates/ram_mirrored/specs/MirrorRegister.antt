@@ -23,16 +23,16 @@ pub record MirrorRegister : Type 0 where
   pub led : Bool
 
 -- it has this, and no loss of power changes that
-abbrev pub settled : MirrorRegister → Value → MirrorRegister
-settled r value = record r { now = Some value; falls = value ∷ [] }
+abbrev pub settled_at : MirrorRegister → Value → MirrorRegister
+settled_at r value = record r { now = Some value; falls = value ∷ [] }
 
 -- once the power went off and on it may have this too
-abbrev pub or_else : MirrorRegister → Value → MirrorRegister
-or_else r value = record r { falls = value ∷ r.falls }
+abbrev pub or_later : MirrorRegister → Value → MirrorRegister
+or_later r value = record r { falls = value ∷ r.falls }
 
 -- it has nothing now
-abbrev pub gone : MirrorRegister → MirrorRegister
-gone r = record r { now = None }
+abbrev pub has_none : MirrorRegister → MirrorRegister
+has_none r = record r { now = None }
 
 -- it has nothing, now or later: no disc is formatted, or the disc has no such sector
 abbrev pub emptied : MirrorRegister → MirrorRegister
@@ -49,109 +49,109 @@ LeadsAnew r led after =
     MatchBool r.led ((after.now ≡ None) × (after.led ≡ led)) (after ≡ record { now = None; falls = r.falls; led = led })
 
 -- A press leaves nothing, and nobody leads.
-abbrev pub AfterPress : MirrorRegister → MirrorEvent → MirrorRegister → Type 0
-AfterPress r (mirrors.OfDisc events.Pressed) after = after ≡ record { now = None; falls = []; led = false }
-AfterPress r (mirrors.OfDisc events.NotPressed) after = after ≡ r
-AfterPress r _ after = ⊥
+abbrev pub OnPress : MirrorRegister → MirrorEvent → MirrorRegister → Type 0
+OnPress r (mirrors.OfDisc events.Pressed) after = after ≡ record { now = None; falls = []; led = false }
+OnPress r (mirrors.OfDisc events.NotPressed) after = after ≡ r
+OnPress r _ after = ⊥
 
 -- The power went off, and on again. A disc that is ready has one of the values that the sector might have, or it has no such sector.
-abbrev pub AfterPower : MirrorRegister → MirrorEvent → MirrorRegister → Type 0
-AfterPower r (mirrors.OfDisc (events.Ready capacity)) after =
-    ((value : Value) × Contains r.falls value × (after ≡ led_on (settled r value))) ⊎ (after ≡ led_on (emptied r))
-AfterPower r (mirrors.OfDisc events.NotFormatted) after = after ≡ led_on (emptied r)
-AfterPower r mirrors.Unknown after = LeadsAnew r false after
-AfterPower r (mirrors.OfDisc events.Cut) after = after ≡ gone r
-AfterPower r _ after = ⊥
+abbrev pub OnPower : MirrorRegister → MirrorEvent → MirrorRegister → Type 0
+OnPower r (mirrors.OfDisc (events.Ready capacity)) after =
+    ((value : Value) × Contains r.falls value × (after ≡ led_on (settled_at r value))) ⊎ (after ≡ led_on (emptied r))
+OnPower r (mirrors.OfDisc events.NotFormatted) after = after ≡ led_on (emptied r)
+OnPower r mirrors.Unknown after = LeadsAnew r false after
+OnPower r (mirrors.OfDisc events.Cut) after = after ≡ has_none r
+OnPower r _ after = ⊥
 
 -- What a call leaves that neither read nor wrote the sector to the end: what was there, and nothing now where the power was cut.
-abbrev pub AfterRefusal : MirrorRegister → MirrorEvent → MirrorRegister → Type 0
-AfterRefusal r (mirrors.OfDisc events.Cut) after = after ≡ gone r
-AfterRefusal r (mirrors.OfDisc events.Off) after = after ≡ r
-AfterRefusal r (mirrors.OfDisc events.NotFormatted) after = after ≡ r
-AfterRefusal r (mirrors.Range capacity) after = after ≡ r
-AfterRefusal r _ after = ⊥
+abbrev pub OnRefusal : MirrorRegister → MirrorEvent → MirrorRegister → Type 0
+OnRefusal r (mirrors.OfDisc events.Cut) after = after ≡ has_none r
+OnRefusal r (mirrors.OfDisc events.Off) after = after ≡ r
+OnRefusal r (mirrors.OfDisc events.NotFormatted) after = after ≡ r
+OnRefusal r (mirrors.Range capacity) after = after ≡ r
+OnRefusal r _ after = ⊥
 
 -- A read that is good gives as many sectors as it asks for, and of this one, if it is among them, the bytes that it has now.
-pub record Shows (at : ℕ) (r : MirrorRegister) (lba n : ℕ) (bytes : List ℕ) : Type 0 where
+pub record GivesSector (at : ℕ) (r : MirrorRegister) (lba n : ℕ) (bytes : List ℕ) : Type 0 where
   pub whole : length bytes ≡ 2048 * n
   pub shown : is_sector_among lba n at ≡ true → r.now ≡ Some (Bytes (bytes_of_sector lba bytes at))
 
-abbrev pub AfterRead : (at : ℕ) → MirrorRegister → (lba n : ℕ) → (bytes : List ℕ) → MirrorEvent → MirrorRegister → Type 0
-AfterRead at r lba n bytes (mirrors.Shows first) after = (first ≡ lba) × Shows at r lba n bytes × (after ≡ r)
-AfterRead at r lba n bytes (mirrors.Unread named) after = after ≡ r
-AfterRead at r lba n bytes event after = AfterRefusal r event after
+abbrev pub OnRead : (at : ℕ) → MirrorRegister → (lba n : ℕ) → (bytes : List ℕ) → MirrorEvent → MirrorRegister → Type 0
+OnRead at r lba n bytes (mirrors.Shows first) after = (first ≡ lba) × GivesSector at r lba n bytes × (after ≡ r)
+OnRead at r lba n bytes (mirrors.Unread named) after = after ≡ r
+OnRead at r lba n bytes event after = OnRefusal r event after
 
 -- a refusal that names a sector came after all blocks before that one's were written
 abbrev pub written_before : (named at : ℕ) → MirrorRegister → Value → MirrorRegister
-written_before named at r value = if nat_lt at (16 * block_with named) then settled r value else r
+written_before named at r value = if nat_lt at (16 * block_with named) then settled_at r value else r
 
 -- A write of these bytes to the sector. Done, it has them. One that was cut, or that could update no list, may have written it or not.
-abbrev pub AfterWrite : (at : ℕ) → MirrorRegister → List ℕ → MirrorEvent → MirrorRegister → Type 0
-AfterWrite at r bytes mirrors.Good after = after ≡ settled r (Bytes bytes)
-AfterWrite at r bytes (mirrors.Unread named) after = after ≡ written_before named at r (Bytes bytes)
-AfterWrite at r bytes (mirrors.NoSpare named) after = after ≡ written_before named at r (Bytes bytes)
-AfterWrite at r bytes (mirrors.NoUpdate counter) after = (after ≡ r) ⊎ (after ≡ settled r (Bytes bytes))
-AfterWrite at r bytes (mirrors.OfDisc events.Cut) after = after ≡ gone (or_else r (Bytes bytes))
-AfterWrite at r bytes event after = AfterRefusal r event after
+abbrev pub OnWrite : (at : ℕ) → MirrorRegister → List ℕ → MirrorEvent → MirrorRegister → Type 0
+OnWrite at r bytes mirrors.Good after = after ≡ settled_at r (Bytes bytes)
+OnWrite at r bytes (mirrors.Unread named) after = after ≡ written_before named at r (Bytes bytes)
+OnWrite at r bytes (mirrors.NoSpare named) after = after ≡ written_before named at r (Bytes bytes)
+OnWrite at r bytes (mirrors.NoUpdate counter) after = (after ≡ r) ⊎ (after ≡ settled_at r (Bytes bytes))
+OnWrite at r bytes (mirrors.OfDisc events.Cut) after = after ≡ has_none (or_later r (Bytes bytes))
+OnWrite at r bytes event after = OnRefusal r event after
 
 -- A write of other sectors.
-abbrev pub AfterOther : MirrorRegister → MirrorEvent → MirrorRegister → Type 0
-AfterOther r mirrors.Good after = after ≡ r
-AfterOther r (mirrors.Unread named) after = after ≡ r
-AfterOther r (mirrors.NoSpare named) after = after ≡ r
-AfterOther r (mirrors.NoUpdate counter) after = after ≡ r
-AfterOther r event after = AfterRefusal r event after
+abbrev pub OnOther : MirrorRegister → MirrorEvent → MirrorRegister → Type 0
+OnOther r mirrors.Good after = after ≡ r
+OnOther r (mirrors.Unread named) after = after ≡ r
+OnOther r (mirrors.NoSpare named) after = after ≡ r
+OnOther r (mirrors.NoUpdate counter) after = after ≡ r
+OnOther r event after = OnRefusal r event after
 
 -- A format. Done, the sector has zeros, or the disc has no such sector. One that failed may leave no disc, and one that was cut may have
 -- come so far or not.
-abbrev pub AfterFormat : MirrorRegister → MirrorEvent → MirrorRegister → Type 0
-AfterFormat r mirrors.Good after = (after ≡ settled r (Bytes (zeros 2048))) ⊎ (after ≡ emptied r)
-AfterFormat r (mirrors.TooMany count) after = after ≡ emptied r
-AfterFormat r (mirrors.NoUpdate counter) after = (after ≡ r) ⊎ (after ≡ emptied r)
-AfterFormat r (mirrors.OfDisc events.Cut) after = after ≡ gone (or_else r (Bytes (zeros 2048)))
-AfterFormat r (mirrors.OfDisc events.Off) after = after ≡ r
-AfterFormat r _ after = ⊥
+abbrev pub OnFormat : MirrorRegister → MirrorEvent → MirrorRegister → Type 0
+OnFormat r mirrors.Good after = (after ≡ settled_at r (Bytes (zeros 2048))) ⊎ (after ≡ emptied r)
+OnFormat r (mirrors.TooMany count) after = after ≡ emptied r
+OnFormat r (mirrors.NoUpdate counter) after = (after ≡ r) ⊎ (after ≡ emptied r)
+OnFormat r (mirrors.OfDisc events.Cut) after = after ≡ has_none (or_later r (Bytes (zeros 2048)))
+OnFormat r (mirrors.OfDisc events.Off) after = after ≡ r
+OnFormat r _ after = ⊥
 
 -- A resynchronisation leaves the sector.
-abbrev pub AfterResync : MirrorRegister → MirrorEvent → MirrorRegister → Type 0
-AfterResync r (mirrors.Left count) after = after ≡ r
-AfterResync r event after = AfterRefusal r event after
+abbrev pub OnResync : MirrorRegister → MirrorEvent → MirrorRegister → Type 0
+OnResync r (mirrors.Left count) after = after ≡ r
+OnResync r event after = OnRefusal r event after
 
 -- It is told who leads, if it is known.
-abbrev pub AfterLead : MirrorRegister → MirrorEvent → MirrorRegister → Type 0
-AfterLead r (mirrors.Leads on_a) after = (r.led ≡ true) × (after ≡ r)
-AfterLead r mirrors.Unknown after = (r.led ≡ false) × (after ≡ r)
-AfterLead r _ after = ⊥
+abbrev pub OnLead : MirrorRegister → MirrorEvent → MirrorRegister → Type 0
+OnLead r (mirrors.Leads on_a) after = (r.led ≡ true) × (after ≡ r)
+OnLead r mirrors.Unknown after = (r.led ≡ false) × (after ≡ r)
+OnLead r _ after = ⊥
 
 -- The lead is given to a side by hand, or could not be. The power is off then.
-abbrev pub AfterGiven : MirrorRegister → (to_a : Bool) → MirrorEvent → MirrorRegister → Type 0
-AfterGiven r to_a (mirrors.Leads on_a) after = (on_a ≡ to_a) × LeadsAnew r true after
-AfterGiven r to_a (mirrors.NoUpdate counter) after = after ≡ gone r
-AfterGiven r to_a (mirrors.OfDisc events.Cut) after = after ≡ gone r
-AfterGiven r to_a (mirrors.OfDisc events.Off) after = after ≡ r
-AfterGiven r to_a _ after = ⊥
+abbrev pub OnGiven : MirrorRegister → (to_a : Bool) → MirrorEvent → MirrorRegister → Type 0
+OnGiven r to_a (mirrors.Leads on_a) after = (on_a ≡ to_a) × LeadsAnew r true after
+OnGiven r to_a (mirrors.NoUpdate counter) after = after ≡ has_none r
+OnGiven r to_a (mirrors.OfDisc events.Cut) after = after ≡ has_none r
+OnGiven r to_a (mirrors.OfDisc events.Off) after = after ≡ r
+OnGiven r to_a _ after = ⊥
 
 -- A line with an answer. One that makes a block of a side fail, wears it or arms a cut leaves the sector.
-abbrev pub AfterLine : (at : ℕ) → MirrorRegister → MirrorLine → (payload : List ℕ) → MirrorEvent → (bytes : List ℕ) → MirrorRegister → Type 0
-AfterLine at r lines.Empty payload event bytes after = ⊥
-AfterLine at r (lines.Press zones scale psa) payload event bytes after = AfterPress r event after
-AfterLine at r lines.Power payload event bytes after = AfterPower r event after
-AfterLine at r (lines.Read lba n) payload event bytes after = AfterRead at r lba n bytes event after
-AfterLine at r (lines.Write lba n) payload event bytes after = MatchBool (is_sector_among lba n at)
-    (AfterWrite at r (bytes_of_sector lba payload at) event after) (AfterOther r event after)
-AfterLine at r lines.Format payload event bytes after = AfterFormat r event after
-AfterLine at r lines.Resync payload event bytes after = AfterResync r event after
-AfterLine at r lines.Lead payload event bytes after = AfterLead r event after
-AfterLine at r (lines.GiveLead to_a) payload event bytes after = AfterGiven r to_a event after
-AfterLine at r (lines.Fail on_a block) payload event bytes after = after ≡ r
-AfterLine at r (lines.Wear on_a block n) payload event bytes after = after ≡ r
-AfterLine at r (lines.Cut on_a n fate) payload event bytes after = after ≡ r
+abbrev pub OnLine : (at : ℕ) → MirrorRegister → MirrorLine → (payload : List ℕ) → MirrorEvent → (bytes : List ℕ) → MirrorRegister → Type 0
+OnLine at r lines.Empty payload event bytes after = ⊥
+OnLine at r (lines.Press zones scale psa) payload event bytes after = OnPress r event after
+OnLine at r lines.Power payload event bytes after = OnPower r event after
+OnLine at r (lines.Read lba n) payload event bytes after = OnRead at r lba n bytes event after
+OnLine at r (lines.Write lba n) payload event bytes after = MatchBool (is_sector_among lba n at)
+    (OnWrite at r (bytes_of_sector lba payload at) event after) (OnOther r event after)
+OnLine at r lines.Format payload event bytes after = OnFormat r event after
+OnLine at r lines.Resync payload event bytes after = OnResync r event after
+OnLine at r lines.Lead payload event bytes after = OnLead r event after
+OnLine at r (lines.GiveLead to_a) payload event bytes after = OnGiven r to_a event after
+OnLine at r (lines.Fail on_a block) payload event bytes after = after ≡ r
+OnLine at r (lines.Wear on_a block n) payload event bytes after = after ≡ r
+OnLine at r (lines.Cut on_a n fate) payload event bytes after = after ≡ r
 
 -- One line, with its data, what it was answered and the bytes that a read gave: from one register to the next. A line that says nothing
 -- is not answered.
 abbrev pub MirrorTurn : (at : ℕ) → MirrorRegister → MirrorLine → (payload : List ℕ) → Told → (bytes : List ℕ) → MirrorRegister → Type 0
 MirrorTurn at r line payload told.Nothing bytes after = (line ≡ lines.Empty) × (after ≡ r)
-MirrorTurn at r line payload (told.Event event) bytes after = AfterLine at r line payload event bytes after
+MirrorTurn at r line payload (told.Event event) bytes after = OnLine at r line payload event bytes after
 
 -- One line that was answered: its bytes; what they say, with their data; what it was answered, and the bytes that a read gave.
 pub record MirrorAnswered : Type 0 where

@@ -11,20 +11,20 @@ use Rattle.ram_pair.specs.declared.told.Told.TheVariants as told
 use Rattle.ram_mirrored.specs.MirrorRegister.{MirrorRegister, MirrorAnswered}
 
 -- it has these bytes, or nothing, and once the power went off and on too
-pub record HasSettled (r : MirrorRegister) (bytes : List ℕ) : Type 0 where
+pub record HasSettledOn (r : MirrorRegister) (bytes : List ℕ) : Type 0 where
   pub shows : (found : Value) → r.now ≡ Some found → found ≡ Bytes bytes
   pub falls : (found : Value) → Contains r.falls found → found ≡ Bytes bytes
 
 -- a line does not ask for the sector to be written, nor for the lead to be given
-abbrev pub LeavesSector : (at : ℕ) → MirrorLine → Type 0
-LeavesSector at (lines.Press zones scale psa) = ⊥
-LeavesSector at lines.Format = ⊥
-LeavesSector at (lines.GiveLead to_a) = ⊥
-LeavesSector at (lines.Write lba n) = is_sector_among lba n at ≡ false
-LeavesSector at line = Unit {0}
+abbrev pub KeepsOneSector : (at : ℕ) → MirrorLine → Type 0
+KeepsOneSector at (lines.Press zones scale psa) = ⊥
+KeepsOneSector at lines.Format = ⊥
+KeepsOneSector at (lines.GiveLead to_a) = ⊥
+KeepsOneSector at (lines.Write lba n) = is_sector_among lba n at ≡ false
+KeepsOneSector at line = Unit {0}
 
 -- None of the lines does, and none is answered that nobody leads.
-abbrev pub LeaveSector : (at : ℕ) → List MirrorAnswered → Type 0
-LeaveSector at [] = Unit {0}
-LeaveSector at (event ∷ events) =
-    LeaveSector at events × LeavesSector at event.line × (event.told ≢ told.Event mirrors.Unknown)
+abbrev pub KeepSector : (at : ℕ) → List MirrorAnswered → Type 0
+KeepSector at [] = Unit {0}
+KeepSector at (event ∷ events) =
+    KeepSector at events × KeepsOneSector at event.line × (event.told ≢ told.Event mirrors.Unknown)

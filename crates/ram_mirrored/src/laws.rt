@@ -9,7 +9,7 @@ ghost use Rattle.ram_answers.specs.Reports.{Heard};
 ghost use Rattle.ram_pair.specs.declared.told.Told.TheVariants as told;
 ghost use Rattle.ram_mirrored.specs.MirrorRuns.{MirrorBeginning, MirrorStandsWith};
 ghost use Rattle.ram_mirrored.specs.MirrorRegister.{MirrorRegister, MirrorAnswered, MirrorTurn, MirrorTurns};
-ghost use Rattle.ram_mirrored.specs.MirrorSettled.{HasSettled, LeaveSector};
+ghost use Rattle.ram_mirrored.specs.MirrorSettled.{HasSettledOn, KeepSector};
 ghost use Rattle.ram_mirrored.specs.MirrorPromise.{KeepsPair};
 
 /// Whatever status a run of a mirror has, each sector is a register over the lines that were answered.
@@ -26,13 +26,13 @@ pub fn what_a_mirror_acknowledged_is_shown()
     ensures settles { (at : ℕ) (r after : MirrorRegister) (event : MirrorAnswered) (lba n : ℕ)
         → MirrorTurn at r event.line event.payload event.told event.bytes after → event.line ≡ lines.Write lba n
         → event.told ≡ told.Event mirrors.Good → is_sector_among lba n at ≡ true
-        → HasSettled after (bytes_of_sector lba event.payload at) }
+        → HasSettledOn after (bytes_of_sector lba event.payload at) }
     ensures stays { (at : ℕ) (bytes : List ℕ) (r after : MirrorRegister) (events : List MirrorAnswered)
-        → MirrorTurns at r events after → LeaveSector at events → HasSettled r bytes → HasSettled after bytes }
+        → MirrorTurns at r events after → KeepSector at events → HasSettledOn r bytes → HasSettledOn after bytes }
     ensures shown { (at : ℕ) (r after : MirrorRegister) (event : MirrorAnswered) (lba n first : ℕ) (bytes : List ℕ)
         → MirrorTurn at r event.line event.payload event.told event.bytes after → event.line ≡ lines.Read lba n
         → event.told ≡ told.Event (mirrors.Shows first) → is_sector_among lba n at ≡ true
-        → HasSettled r bytes → bytes_of_sector lba event.bytes at ≡ bytes }
+        → HasSettledOn r bytes → bytes_of_sector lba event.bytes at ≡ bytes }
     ensures whole { (at : ℕ) (r after : MirrorRegister) (event : MirrorAnswered) (lba n first : ℕ)
         → MirrorTurn at r event.line event.payload event.told event.bytes after → event.line ≡ lines.Read lba n
         → event.told ≡ told.Event (mirrors.Shows first) → length event.bytes ≡ 2048 * n }

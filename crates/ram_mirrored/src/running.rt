@@ -92,10 +92,12 @@ fn serve_both<S: Side, T: Conversation>(
         → MirrorStandsWith first (heard_of T.Conversation T.Sink.Sink talk.new)
         (S.Image.bytes result.0) (S.Image.bytes result.1)
         (counts_beside T.Conversation T.Sink.Sink talk.old (S.Image.faults a) (S.Image.faults b))
-        (counts_beside T.Conversation T.Sink.Sink talk.new (S.Image.faults result.0) (S.Image.faults result.1)) result.2 }
+        (counts_beside T.Conversation T.Sink.Sink talk.new (S.Image.faults result.0) (S.Image.faults result.1))
+        result.2 }
     ensures counts { StatusCounts
         (counts_beside T.Conversation T.Sink.Sink talk.old (S.Image.faults a) (S.Image.faults b))
-        (counts_beside T.Conversation T.Sink.Sink talk.new (S.Image.faults result.0) (S.Image.faults result.1)) result.2 }
+        (counts_beside T.Conversation T.Sink.Sink talk.new (S.Image.faults result.0) (S.Image.faults result.1))
+        result.2 }
     ensures asks { (first : MirrorBeginning)
         → IsMirrorBeginning first (heard_of T.Conversation T.Sink.Sink talk.old) (S.Image.bytes a) (S.Image.bytes b)
         → AsksOnly (IsMirrorToldBy first) (T.asked talk.old) (T.asked talk.new) }
