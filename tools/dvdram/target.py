@@ -93,8 +93,8 @@ def end(target: Target) -> None:
 
 
 def wake_by_signals(stack: ExitStack) -> socket.socket:
-    """A socket that can be read once a signal came. A signal that comes right before a call that waits does not
-    end the wait by itself."""
+    """A socket that can be read once a signal came. A signal that comes right before a call that waits does
+    not end the wait by itself."""
     woken, waker = socket.socketpair()
     stack.enter_context(woken)
     stack.enter_context(waker)
