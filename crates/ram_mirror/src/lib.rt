@@ -1,7 +1,7 @@
 //! A mirror of two discs: what is written goes to both, and what one cannot give the other does.
 //!
 //! What to read: `src/mirror.rt`, then `src/writing.rt`, `src/reading.rt`, `src/power.rt`, `src/starting.rt`, `src/resync.rt`. What each
-//! call may answer, and why, is defined in `model_mirror`. Nothing stands on this crate yet: the program has no word for a mirror.
+//! call may answer, and why, is defined in `model_mirror`. The lines of a script for a mirror stand on it (`ram_pair`).
 //!
 //! - A read goes block after block to the lead, and where that lacks the bytes to the other side, if that is up and the block is
 //!   not apart.
