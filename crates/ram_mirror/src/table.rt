@@ -83,10 +83,11 @@ impl ApartTable {
     pub fn mark(&mut self, first: u64, count: u64, apart: bool)
         ensures marked { AreMarked (is_among first count) apart (entries_of self.old) (entries_of self.new) }
     {
-        for k in 0..self.entries.len() {
-            if is_among(k, first, count) {
-                self.entries[k] = apart;
-            }
+        let entries = self.entries.len() as u64;
+        let start = first.min(entries);
+        let end = start + count.min(entries - start);
+        for k in start as usize..end as usize {
+            self.entries[k] = apart;
         }
     }
 }
@@ -99,12 +100,4 @@ fn one_if(apart: bool) -> u32
         return 1;
     }
     0
-}
-
-/// Whether a block is one of `count` from block `first` on.
-fn is_among(block: usize, first: u64, count: u64) -> bool
-    ensures { result ≡ is_among first count block }
-{
-    let block = block as u64;
-    first <= block && block - first < count
 }
