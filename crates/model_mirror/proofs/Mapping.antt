@@ -85,7 +85,7 @@ mounted_side : (after after' : Standing → Type 0) → ((s : Standing) → afte
 mounted_side after after' each s is = record { mounted = is.mounted; told = is.told; step = power_mapped after after' each is.mounted s is.told is.step }
 
 mounted_lead : (after after' : Standing → Type 0) → ((s : Standing) → after s → after' s) → (now : Shown) (s : Standing) (out : MirrorPowerOut) → LeadPowerStep now after s out → LeadPowerStep now after' s out
-mounted_lead after after' each now s (outs.Ready known) step = record { mounted = step.mounted; since = step.since; finds = finds_mapped after after' each step.mounted _ step.finds }
+mounted_lead after after' each now s (outs.Ready known) step = let found = step.1 in (step.0, record { mounted = found.mounted; since = found.since; finds = finds_mapped after after' each found.mounted _ found.finds })
 mounted_lead after after' each now s outs.NotFormatted step = each _ step
 mounted_lead after after' each now s outs.Unknown step = tt
 mounted_lead after after' each now s outs.Cut step = mounted_side (once_off after) (once_off after') (off_mapped after after' each) s step

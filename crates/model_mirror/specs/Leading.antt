@@ -6,6 +6,7 @@ use Rattle.model_drive.specs.declared.RecordOut.{RecordOut}
 use Rattle.model_drive.specs.declared.RecordOut.TheVariants as outs
 use Rattle.model_drive.specs.Shown.{Shown}
 use Rattle.model_drive.specs.Records.{GenerationCause, LeadFromCause}
+use Rattle.model_cache.specs.Chains.{LeavesSound}
 
 -- The record of one side: whether it was read or begun to be written in this run; the greatest number that it may have, which is 0
 -- where it is lost; and the record that is held, which is written with another number.
@@ -51,6 +52,7 @@ after_reading was value out = record was { held = value }
 pub record NotesRecord (old new : Shown) (was now : Noted) (out : RecordOut) : Type 0 where
   pub value : LeadRecord
   pub cause : GenerationCause old new value out
+  pub leaves : LeavesSound old new
   pub now_is : now ≡ after_reading was value out
 
 -- the record that is held, with another number
@@ -65,6 +67,7 @@ after_writing was number out = record { seen = true; most = number; held = numbe
 -- A record was written with this number, and it went so.
 pub record WritesNumber (old new : Shown) (was now : Noted) (number : ℕ) (out : RecordOut) : Type 0 where
   pub cause : LeadFromCause old new (numbered was number) out
+  pub leaves : LeavesSound old new
   pub now_is : now ≡ after_writing was number out
 
 -- Nothing was written.

@@ -6,9 +6,10 @@ use Rattle.model_sectors.specs.declared.PowerOut.{PowerOut}
 use Rattle.model_sectors.specs.declared.PowerOut.TheVariants as powers
 use Rattle.model_drive.specs.declared.RecordOut.{RecordOut}
 use Rattle.model_drive.specs.declared.RecordOut.TheVariants as records
-use Rattle.model_drive.specs.Shown.{Shown}
+use Rattle.model_drive.specs.Shown.{Shown, capacity}
 use Rattle.model_drive.specs.Power.{PowerCause, PowerStep, FindsDisc}
 use Rattle.model_drive.specs.Records.{OnlyRecord}
+use Rattle.model_cache.specs.Chains.{LeavesSound}
 use Rattle.model_mirror.specs.declared.Waking.{Waking}
 use Rattle.model_mirror.specs.declared.MirrorPowerOut.{MirrorPowerOut}
 use Rattle.model_mirror.specs.declared.MirrorPowerOut.TheVariants as outs
@@ -21,6 +22,7 @@ use Rattle.model_mirror.specs.Whole.{all_apart}
 pub record WakesSide (old new : Shown) (was now : Noted) (told : Waking) : Type 0 where
   pub mounted : Shown
   pub powers : PowerCause old mounted told.power
+  pub mounts : LeavesSound old mounted
   pub notes : NotesRecord mounted new was now told.record
 
 -- Both sides were. The mirror is off.
@@ -183,9 +185,9 @@ pub record StandsMounted (after : Standing → Type 0) (s : Standing) : Type 0 w
   pub told : PowerOut
   pub step : PowerStep mounted after s told
 
--- What the power on makes of what the side stood for that leads then, for the mirror.
+-- What the power on makes of what the side stood for that leads then, for the mirror. The capacity that is told is that of its disc.
 abbrev pub LeadPowerStep : (now : Shown) → (after : Standing → Type 0) → Standing → MirrorPowerOut → Type 0
-LeadPowerStep now after s (outs.Ready known) = FindsMounted now after s
+LeadPowerStep now after s (outs.Ready known) = (known ≡ capacity now) × FindsMounted now after s
 LeadPowerStep now after s outs.NotFormatted = after (On [])
 LeadPowerStep now after s outs.Unknown = Unit {0}
 LeadPowerStep now after s outs.Cut = StandsMounted (once_off after) s

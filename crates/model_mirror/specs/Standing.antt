@@ -2,6 +2,7 @@
 -- bytes in each block that is not apart. (This project's own, as all here.)
 use Rattle.std.specs.Prelude.{◌≡◌, ℕ, ◌*◌, ◌≤◌, ◌⊎◌, Bool, true, false, List, [], ◌∷◌, length}
 use Rattle.model_sectors.specs.Discs.{Standing, On, Off, block_of}
+use Rattle.model_drive.specs.Shown.{StandsFor}
 use Rattle.model_mirror.specs.Table.{is_apart}
 use Rattle.model_mirror.specs.Shown.{MirrorShown}
 
@@ -39,3 +40,7 @@ pub record LeadIsIdle (shown : MirrorShown) (lead : Standing → Type 0) (discs 
 abbrev pub MirrorStands : MirrorShown → (lead other : Standing → Type 0) → Standing → Type 0
 MirrorStands shown lead other (On disc) = (shown.on ≡ true) × lead (On disc) × IsFollowed shown other disc
 MirrorStands shown lead other (Off discs) = (lead (Off discs) ⊎ LeadIsIdle shown lead discs) × StandsSomehow other
+
+-- a mirror of two drives may stand for this
+abbrev pub MayBe : MirrorShown → Standing → Type 0
+MayBe shown s = MirrorStands shown (StandsFor shown.lead) (StandsFor shown.other) s

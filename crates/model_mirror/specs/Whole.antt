@@ -13,7 +13,7 @@ use Rattle.model_mirror.specs.declared.Resync.{Resync}
 use Rattle.model_mirror.specs.declared.Resync.TheVariants as resyncs
 use Rattle.model_mirror.specs.Table.{AreMarked, is_apart, count_apart, is_block}
 use Rattle.model_mirror.specs.Shown.{MirrorShown, mirror_turned_off, led_by}
-use Rattle.model_cache.specs.Chains.{ReadsDisc}
+use Rattle.model_cache.specs.Chains.{ReadsDisc, LeavesSound}
 use Rattle.model_mirror.specs.Reads.{LeadReads, up_after_read}
 use Rattle.model_mirror.specs.Writes.{WritesSide, after_lone_write}
 
@@ -25,9 +25,14 @@ all_apart lead = replicate (block_count lead) true
 abbrev pub none_apart : Shown → List Bool
 none_apart lead = replicate (block_count lead) false
 
--- the lead was formatted anew, and it went so
+-- a side was formatted anew, and it went so
+pub record FormatsSide (old new : Shown) (out : FormatOut) : Type 0 where
+  pub formatted : FormatCause old new (kinds.Full true) out
+  pub leaves : LeavesSound old new
+
+-- the lead was, and nothing else happened
 abbrev pub LeadFormats : MirrorShown → MirrorShown → FormatOut → Type 0
-LeadFormats old mid out = FormatCause old.lead mid.lead (kinds.Full true) out × (mid ≡ led_by old mid.lead)
+LeadFormats old mid out = FormatsSide old.lead mid.lead out × (mid ≡ led_by old mid.lead)
 
 -- whether the other side is up after a format of both
 abbrev pub up_after_format : (lead other : FormatOut) → (here there : ℕ) → Bool
@@ -40,7 +45,7 @@ pub record FormatsBoth (old new : MirrorShown) : Type 0 where
   pub mid : MirrorShown
   pub lead : LeadFormats old mid formats.Good
   pub told : FormatOut
-  pub other : FormatCause mid.other new.other (kinds.Full true) told
+  pub other : FormatsSide mid.other new.other told
   pub new_is : new ≡ record mid {
     other = new.other;
     up = up_after_format formats.Good told (block_count mid.lead) (block_count new.other);

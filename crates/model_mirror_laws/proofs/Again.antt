@@ -2,7 +2,6 @@
 use Rattle.std.specs.Prelude.{◌≡◌, ◌⊎◌, ℕ, ◌<◌, ◌≤◌, ◌&&◌, not, MatchBool, if◌then◌else◌, Bool, true, false}
 use Rattle.std.proofs.Common.{refl, sym, ap, ◌∙◌, inl, inr, subst, arith}
 use Rattle.std.proofs.lemmas.Bool.{false≢true, ltb-true, lt-ltb, leb-true, le-leb}
-use Rattle.model_geometry.specs.Geometry.{Shape}
 use Rattle.model_sectors.specs.declared.PowerOut.{PowerOut}
 use Rattle.model_sectors.specs.declared.PowerOut.TheVariants as power_outs
 use Rattle.model_drive.specs.declared.RecordOut.{RecordOut}
@@ -15,10 +14,10 @@ use Rattle.model_mirror.specs.Leading.{floor_of}
 use Rattle.model_mirror.specs.Shown.{MirrorShown, exchanged}
 use Rattle.model_mirror.specs.Taking.{LeadRaises}
 use Rattle.model_mirror.specs.Powers.{MirrorPowerCause, NobodyLeads, LeadStops, stop_of, Starts, Leads, GoesOn, Follows, RaisesFirst, Finishes, is_to_lead, is_read, can_tell, still_tells, stays_on, goes_before}
-use Rattle.model_mirror_laws.specs.Kept.{AreSides}
-use Rattle.model_mirror_laws.specs.Ahead.{HoldsOfCopies, IsAhead, KeepsACopy, KnowsRecords, WakesInShape, WakesWithCopies, SideIsAhead}
+use Rattle.model_mirror_laws.specs.Ahead.{HoldsOfCopies, IsAhead, KeepsACopy, KnowsRecords, CopiesLast, SideIsAhead}
 use Rattle.model_mirror_laws.proofs.Numbers.{woke_copies, woke_has, raised_copies, raised_exact}
-use Rattle.model_mirror_laws.proofs.Knowing.{KnowsLead, HasWoken, knows_lead, raises_other, told_seen, both_read, and_right, lead_mounted, lead_woke, other_mounted, other_woke, has_woken, has_woken_exchanged}
+use Rattle.model_mirror_laws.proofs.LastingCopies.{copies_woke}
+use Rattle.model_mirror_laws.proofs.Knowing.{KnowsLead, HasWoken, knows_lead, raises_other, told_seen, both_read, and_right, has_woken, has_woken_exchanged}
 
 -- the same sides
 ahead_by : (x x' y y' : Shown) → x' ≡ x → y' ≡ y → IsAhead x y → IsAhead x' y'
@@ -49,7 +48,7 @@ module _ (new : MirrorShown) (out : MirrorPowerOut) where
       go true p = same_ends mid ahead p.1
       go false nobody = nobody_ends mid ahead nobody
 
-  module _ (shape : Shape) (new_lead : new.lead.shape ≡ shape) (new_other : new.other.shape ≡ shape) (lead other : Waking) where
+  module _ (lead other : Waking) where
     abbrev SameRoles : MirrorShown → Type 0
     SameRoles late = (new.lead ≡ late.lead) × (new.other ≡ late.other) × (new.lead_is_a ≡ late.lead_is_a)
 
@@ -71,18 +70,18 @@ module _ (new : MirrorShown) (out : MirrorPowerOut) where
     first_roles mid late false raised r = (ap (λ (s : MirrorShown). s.lead) r.0, ap (λ (s : MirrorShown). s.lead_is_a) r.0)
 
     -- a record that gets 1 has no more than the floor
-    first_few : (mid late : MirrorShown) (asked : Bool) (raised : RecordOut) (floor : ℕ) → 1 ≤ floor → RaisesFirst mid late asked raised → late.other.shape ≡ mid.other.shape → IsKnown mid.other
+    first_few : (mid late : MirrorShown) (asked : Bool) (raised : RecordOut) (floor : ℕ) → 1 ≤ floor → RaisesFirst mid late asked raised → IsKnown mid.other
         → HoldsOfCopies (λ number. number ≤ floor) mid.other → HoldsOfCopies (λ number. number ≤ floor) late.other
-    first_few mid late true raised floor some r same known few = raised_copies (λ number. number ≤ floor) mid.other late.other same few known mid.who.other late.who.other 0 raised r.raises (λ _. some)
-    first_few mid late false raised floor some r same known few = subst (λ (s : MirrorShown). HoldsOfCopies (λ number. number ≤ floor) s.other) (sym r.0) few
+    first_few mid late true raised floor some r known few = raised_copies (λ number. number ≤ floor) mid.other late.other few known mid.who.other late.who.other 0 raised r.raises (λ _. some)
+    first_few mid late false raised floor some r known few = subst (λ (s : MirrorShown). HoldsOfCopies (λ number. number ≤ floor) s.other) (sym r.0) few
 
     -- The side that is to lead is ahead.
-    module _ (mid : MirrorShown) (mid_lead : mid.lead.shape ≡ shape) (mid_other : mid.other.shape ≡ shape) (woken : HasWoken mid lead.record other.record) (ahead : IsAhead mid.lead mid.other) where
-      late_ahead : (late : MirrorShown) (raised : RecordOut) → lead.record ≡ records.Good → ahead.between < mid.who.lead.most → late.lead.shape ≡ mid.lead.shape → LeadRaises mid late (floor_of mid.who.other) raised
+    module _ (mid : MirrorShown) (woken : HasWoken mid lead.record other.record) (ahead : IsAhead mid.lead mid.other) where
+      late_ahead : (late : MirrorShown) (raised : RecordOut) → lead.record ≡ records.Good → ahead.between < mid.who.lead.most → LeadRaises mid late (floor_of mid.who.other) raised
           → IsAhead late.lead late.other
-      late_ahead late raised read most same raises = record {
+      late_ahead late raised read most raises = record {
         between = ahead.between;
-        above = raised_copies (λ number. ahead.between < number) mid.lead late.lead same ahead.above woken.knows.lead_known mid.who.lead late.who.lead (floor_of mid.who.other) raised raises.raises (λ few. omega (arith, few, most));
+        above = raised_copies (λ number. ahead.between < number) mid.lead late.lead ahead.above woken.knows.lead_known mid.who.lead late.who.lead (floor_of mid.who.other) raised raises.raises (λ few. omega (arith, few, most));
         below = subst (HoldsOfCopies (λ number. number ≤ ahead.between)) (sym (raises_other mid late (floor_of mid.who.other) raised raises)) ahead.below;
       }
 
@@ -98,7 +97,7 @@ module _ (new : MirrorShown) (out : MirrorPowerOut) where
           ahead = ahead_by f.late.lead new.lead f.late.other new.other roles.0 roles.1 (record {
             between = floor_of mid.who.other;
             above = subst (HoldsOfCopies (λ number. floor_of mid.who.other < number)) (sym first.0) (λ value area copy. let is = exact.0 value area copy in let more = exact.1 in omega (arith, is, more));
-            below = first_few late f.late (is_read other.record) f.raised (floor_of mid.who.other) (omega arith) f.raises same_shape
+            below = first_few late f.late (is_read other.record) f.raised (floor_of mid.who.other) (omega arith) f.raises
                 (subst IsKnown (sym same_other) woken.knows.other_known)
                 (subst (HoldsOfCopies (λ number. number ≤ floor_of mid.who.other)) (sym same_other) (λ value area copy. let few = noted value area copy in omega (arith, few)));
           });
@@ -117,25 +116,19 @@ module _ (new : MirrorShown) (out : MirrorPowerOut) where
             same_other : late.other ≡ mid.other
             same_other = raises_other mid late (floor_of mid.who.other) records.Good raises
 
-            same_shape : f.late.other.shape ≡ late.other.shape
-            same_shape = sym (ap (λ (s : Shown). s.shape) roles.1) ∙ new_other ∙ sym (ap (λ (s : Shown). s.shape) same_other ∙ mid_other)
-
             noted : HoldsOfCopies (λ number. number ≤ mid.who.other.most) mid.other
             noted = woken.knows.noted (told_seen mid.who other.record woken.knows.not_by_hand can woken.other_seen)
 
         leads_ends : Leads mid new lead other out → EndsAhead mid new
         leads_ends l = go l.raised l.raises l.ends
           where
-            shape_by : new.lead ≡ l.late.lead → l.late.lead.shape ≡ mid.lead.shape
-            shape_by same = sym (ap (λ (s : Shown). s.shape) same) ∙ new_lead ∙ sym mid_lead
-
             nobody : (raised : RecordOut) → LeadRaises mid l.late (floor_of mid.who.other) raised → NobodyLeads l.late new out → EndsAhead mid new
             nobody raised raises ends =
-                at_mid l.late (late_side l.late raised raises) (nobody_ends l.late (late_ahead l.late raised read most (shape_by (ap (λ (s : MirrorShown). s.lead) ends.new_is)) raises) ends)
+                at_mid l.late (late_side l.late raised raises) (nobody_ends l.late (late_ahead l.late raised read most raises) ends)
 
             stays : (raised : RecordOut) → LeadRaises mid l.late (floor_of mid.who.other) raised → new ≡ l.late → EndsAhead mid new
             stays raised raises same =
-                at_mid l.late (late_side l.late raised raises) (same_ends l.late (late_ahead l.late raised read most (shape_by (ap (λ (s : MirrorShown). s.lead) same)) raises) same)
+                at_mid l.late (late_side l.late raised raises) (same_ends l.late (late_ahead l.late raised read most raises) same)
 
             go : (raised : RecordOut) → LeadRaises mid l.late (floor_of mid.who.other) raised → GoesOn l.late new lead other out raised → EndsAhead mid new
             go records.Good raises ends = followed l.late raises ends
@@ -207,24 +200,19 @@ not_before true lead other less = lt-ltb lead other less
 not_before false lead other less = le-leb lead other (omega (arith, less))
 
 -- Both sides woke, and one of them was ahead.
-module _ (shape : Shape) (old new : MirrorShown) (out : MirrorPowerOut) (cause : MirrorPowerCause old new out) (sides : AreSides shape old) (sides' : AreSides shape new)
-    (whole : WakesInShape shape old new out cause) (copies : WakesWithCopies old new out cause) (knows : KnowsLead old) where
+module _ (old new : MirrorShown) (out : MirrorPowerOut) (cause : MirrorPowerCause old new out) (copies : KeepsACopy old.lead cause.mid.lead × KeepsACopy old.other cause.mid.other) (knows : KnowsLead old) where
   module _ (P : ℕ → Type 0) where
     lead_copies : HoldsOfCopies P old.lead → P 0 ⊎ KeepsACopy old.lead cause.mid.lead → HoldsOfCopies P cause.mid.lead
-    lead_copies holds why = woke_copies old.lead cause.mid.lead old.who.lead cause.mid.who.lead cause.lead cause.wakes.led knows.lead_known
-        (lead_mounted shape old new out cause sides sides' whole knows) (lead_woke shape old new out cause sides sides' whole knows) P holds why
+    lead_copies holds why = woke_copies old.lead cause.mid.lead old.who.lead cause.mid.who.lead cause.lead cause.wakes.led knows.lead_known P holds why
 
     lead_has : HoldsOfCopies P old.lead → P 0 ⊎ KeepsACopy old.lead cause.mid.lead → cause.lead.record ≡ records.Good → P cause.mid.who.lead.most
-    lead_has holds why read = woke_has old.lead cause.mid.lead old.who.lead cause.mid.who.lead cause.lead cause.wakes.led knows.lead_known
-        (lead_mounted shape old new out cause sides sides' whole knows) (lead_woke shape old new out cause sides sides' whole knows) P holds why read
+    lead_has holds why read = woke_has old.lead cause.mid.lead old.who.lead cause.mid.who.lead cause.lead cause.wakes.led knows.lead_known P holds why read
 
     other_copies : HoldsOfCopies P old.other → P 0 ⊎ KeepsACopy old.other cause.mid.other → HoldsOfCopies P cause.mid.other
-    other_copies holds why = woke_copies old.other cause.mid.other old.who.other cause.mid.who.other cause.other cause.wakes.followed knows.other_known
-        (other_mounted shape old new out cause sides sides' whole knows) (other_woke shape old new out cause sides sides' whole knows) P holds why
+    other_copies holds why = woke_copies old.other cause.mid.other old.who.other cause.mid.who.other cause.other cause.wakes.followed knows.other_known P holds why
 
     other_has : HoldsOfCopies P old.other → P 0 ⊎ KeepsACopy old.other cause.mid.other → cause.other.record ≡ records.Good → P cause.mid.who.other.most
-    other_has holds why read = woke_has old.other cause.mid.other old.who.other cause.mid.who.other cause.other cause.wakes.followed knows.other_known
-        (other_mounted shape old new out cause sides sides' whole knows) (other_woke shape old new out cause sides sides' whole knows) P holds why read
+    other_has holds why read = woke_has old.other cause.mid.other old.who.other cause.mid.who.other cause.other cause.wakes.followed knows.other_known P holds why read
 
   mid_side : cause.mid.lead_is_a ≡ old.lead_is_a
   mid_side = ap (λ (s : MirrorShown). s.lead_is_a) cause.wakes.new_is
@@ -233,7 +221,7 @@ module _ (shape : Shape) (old new : MirrorShown) (out : MirrorPowerOut) (cause :
   mid_known = ap (λ (s : MirrorShown). s.who.known) cause.wakes.new_is
 
   woken : HasWoken cause.mid cause.lead.record cause.other.record
-  woken = has_woken shape old new out cause sides sides' whole knows
+  woken = has_woken old new out cause knows
 
   -- the one that is named first
   pub first_again : IsAhead old.lead old.other → IsAhead new.lead new.other × (new.lead_is_a ≡ old.lead_is_a)
@@ -242,7 +230,7 @@ module _ (shape : Shape) (old new : MirrorShown) (out : MirrorPowerOut) (cause :
       ahead : IsAhead cause.mid.lead cause.mid.other
       ahead = record {
         between = was.between;
-        above = lead_copies (λ number. was.between < number) was.above (inr copies.lead);
+        above = lead_copies (λ number. was.between < number) was.above (inr copies.0);
         below = other_copies (λ number. number ≤ was.between) was.below (inl (omega arith));
       }
 
@@ -251,13 +239,13 @@ module _ (shape : Shape) (old new : MirrorShown) (out : MirrorPowerOut) (cause :
           → IsAhead new.lead new.other × (new.lead_is_a ≡ old.lead_is_a)
       go true e starts =
           let read = both_read cause.mid.who.known cause.lead.record cause.other.record _ e in
-          let more = lead_has (λ number. was.between < number) was.above (inr copies.lead) read.0 in
+          let more = lead_has (λ number. was.between < number) was.above (inr copies.0) read.0 in
           let few = other_has (λ number. number ≤ was.between) was.below (inl (omega arith)) read.1 in
           let last : goes_before cause.mid.lead_is_a cause.mid.who.lead.most cause.mid.who.other.most ≡ true = and_right ((not cause.mid.who.known && is_read cause.lead.record) && is_read cause.other.record) _ e in
           absurd (no_room was.between cause.mid.who.lead.most cause.mid.who.other.most more few (before_more cause.mid.lead_is_a cause.mid.who.lead.most cause.mid.who.other.most last))
       go false e starts =
-          let ends = starts_ends new out shape sides'.lead_shape sides'.other_shape cause.lead cause.other cause.mid whole.lead_woke whole.other_woke woken ahead cause.lead.record refl
-          (λ read. lead_has (λ number. was.between < number) was.above (inr copies.lead) read) starts in
+          let ends = starts_ends new out cause.lead cause.other cause.mid woken ahead cause.lead.record refl
+          (λ read. lead_has (λ number. was.between < number) was.above (inr copies.0) read) starts in
           (ends.ahead, ends.same_side ∙ mid_side)
 
   -- and the other one, where it is not known who leads
@@ -270,14 +258,14 @@ module _ (shape : Shape) (old new : MirrorShown) (out : MirrorPowerOut) (cause :
       ahead : IsAhead cause.mid.other cause.mid.lead
       ahead = record {
         between = was.between;
-        above = other_copies (λ number. was.between < number) was.above (inr copies.other);
+        above = other_copies (λ number. was.between < number) was.above (inr copies.1);
         below = lead_copies (λ number. number ≤ was.between) was.below (inl (omega arith));
       }
 
       -- were both read, the other one would lead
       not_both : is_to_lead cause.mid cause.lead.record cause.other.record ≡ false → cause.lead.record ≡ records.Good → cause.other.record ≡ records.Good → ⊥
       not_both e one two =
-          let more = other_has (λ number. was.between < number) was.above (inr copies.other) two in
+          let more = other_has (λ number. was.between < number) was.above (inr copies.1) two in
           let few = lead_has (λ number. number ≤ was.between) was.below (inl (omega arith)) one in
           let before = not_before cause.mid.lead_is_a cause.mid.who.lead.most cause.mid.who.other.most (omega (arith, more, few)) in
           false≢true (sym e ∙ to_lead one two (mid_known ∙ unknown) before)
@@ -297,9 +285,9 @@ module _ (shape : Shape) (old new : MirrorShown) (out : MirrorPowerOut) (cause :
           → MatchBool b (Starts (exchanged cause.mid) new cause.other cause.lead out cause.other.record) (Starts cause.mid new cause.lead cause.other out cause.lead.record) → OtherAgain
       go true e starts =
           let read = both_read cause.mid.who.known cause.lead.record cause.other.record _ e in
-          let ends = starts_ends new out shape sides'.lead_shape sides'.other_shape cause.other cause.lead (exchanged cause.mid) whole.other_woke whole.lead_woke
-          (has_woken_exchanged shape old new out cause sides sides' whole knows read.0) ahead cause.other.record refl
-          (λ got. other_has (λ number. was.between < number) was.above (inr copies.other) got) starts in
+          let ends = starts_ends new out cause.other cause.lead (exchanged cause.mid)
+          (has_woken_exchanged old new out cause knows read.0) ahead cause.other.record refl
+          (λ got. other_has (λ number. was.between < number) was.above (inr copies.1) got) starts in
           inl (ends.ahead, ends.same_side ∙ ap not mid_side)
       go false e starts =
           let ends = starts_behind new out cause.mid cause.lead cause.other cause.lead.record (mid_known ∙ unknown) woken.knows.not_by_hand ahead (not_both e) starts in
@@ -344,19 +332,22 @@ not_same : (a b : Bool) → a ≡ b → a ≡ not b → ⊥
 not_same a true one two = false≢true (sym two ∙ one)
 not_same a false one two = false≢true (sym one ∙ two)
 
-pub leads_again : (shape : Shape) (old new : MirrorShown) → AreSides shape old → AreSides shape new → (out : MirrorPowerOut) (cause : MirrorPowerCause old new out) → WakesInShape shape old new out cause
-    → WakesWithCopies old new out cause → KnowsRecords old → (on_a : Bool) → SideIsAhead on_a old → (old.who.known ≡ true → old.lead_is_a ≡ on_a)
+pub leads_again : (old new : MirrorShown) (out : MirrorPowerOut) (cause : MirrorPowerCause old new out)
+    → CopiesLast old new → KnowsRecords old → (on_a : Bool) → SideIsAhead on_a old → (old.who.known ≡ true → old.lead_is_a ≡ on_a)
     → SideIsAhead on_a new × (new.who.known ≡ true → new.lead_is_a ≡ on_a)
-leads_again shape old new sides sides' out cause whole copies knows on_a was led = elim (which on_a old.lead_is_a old.lead old.other (named on_a old was)) [
+leads_again old new out cause last knows on_a was led = elim (which on_a old.lead_is_a old.lead old.other (named on_a old was)) [
   | inl first ↦
-      let again = first_again shape old new out cause sides sides' whole copies (knows_lead old knows) first.1 in
+      let again = first_again old new out cause copies (knows_lead old knows) first.1 in
       (unnamed on_a new (named_first on_a new.lead_is_a new.lead new.other (again.1 ∙ first.0) again.0), λ _. again.1 ∙ first.0)
-  | inr other ↦ elim (other_again shape old new out cause sides sides' whole copies (knows_lead old knows) other.1 (not_known other.0)) [
+  | inr other ↦ elim (other_again old new out cause copies (knows_lead old knows) other.1 (not_known other.0)) [
     | inl turned ↦ let same = turned.1 ∙ ap not other.0 ∙ not_not on_a in (unnamed on_a new (named_first on_a new.lead_is_a new.lead new.other same turned.0), λ _. same)
     | inr nobody ↦ (unnamed on_a new (named_other on_a new.lead_is_a new.lead new.other (nobody.1 ∙ other.0) nobody.0), λ known. absurd (false≢true (sym nobody.2 ∙ known)))
   ]
 ]
   where
+    copies : KeepsACopy old.lead cause.mid.lead × KeepsACopy old.other cause.mid.other
+    copies = copies_woke old new out cause last
+
     not_known : old.lead_is_a ≡ not on_a → old.who.known ≡ false
     not_known turned = go old.who.known refl
       where

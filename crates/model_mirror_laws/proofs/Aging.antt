@@ -6,17 +6,17 @@ use Rattle.model_drive.specs.Shown.{Shown, StandsFor}
 use Rattle.model_drive.proofs.Dying.{same_on, same_candidates}
 use Rattle.model_mirror.specs.Shown.{MirrorShown}
 use Rattle.model_mirror.specs.Leading.{Leading}
-use Rattle.model_mirror.specs.Standing.{StandsSomehow, MirrorStands}
+use Rattle.model_mirror.specs.Standing.{StandsSomehow, MirrorStands, MayBe}
 use Rattle.model_mirror.proofs.Mapping.{stands_mapped}
-use Rattle.model_mirror_laws.specs.Sides.{side_of}
+use Rattle.model_mirror.specs.Sides.{side_of}
 use Rattle.model_mirror_laws.specs.Ahead.{HoldsOfCopies, SideIsAhead, KnowsRecords}
-use Rattle.model_mirror_laws.specs.Bytes.{MayBe, Ages, SidesAge, HoldsSector, KeepsSector, IsKept}
+use Rattle.model_mirror_laws.specs.Bytes.{Ages, SidesAge, HoldsSector, KeepsSector, IsKept}
 use Rattle.model_mirror_laws.proofs.Numbers.{dying_copies}
 
 module _ (old new : Shown) (ages : Ages old new) where
   ages_stands : (s : Standing) → StandsFor old s → StandsFor new s
-  ages_stands (On disc) stands = same_on old new ages.same_shape ages.as_known ages.keeps ages.same_buffer (subst IsTrue (sym ages.same_power) stands.1) ages.same disc stands
-  ages_stands (Off discs) stands = same_candidates old new ages.same_shape ages.as_known (λ on. stands.1 (subst IsTrue ages.same_power on)) ages.same discs stands
+  ages_stands (On disc) stands = same_on old new ages.leaves.same_shape ages.as_known ages.keeps ages.same_buffer (subst IsTrue (sym ages.same_power) stands.1) ages.same disc stands
+  ages_stands (Off discs) stands = same_candidates old new ages.leaves.same_shape ages.as_known (λ on. stands.1 (subst IsTrue ages.same_power on)) ages.same discs stands
 
   ages_somehow : StandsSomehow (StandsFor old) → StandsSomehow (StandsFor new)
   ages_somehow some = record { standing = some.standing; stands = ages_stands some.standing some.stands }
@@ -25,7 +25,7 @@ module _ (old new : Shown) (ages : Ages old new) where
   ages_holds at bytes holds = record { standing = holds.standing; stands = ages_stands holds.standing holds.stands; each = holds.each }
 
   ages_copies : (P : ℕ → Type 0) → HoldsOfCopies P old → HoldsOfCopies P new
-  ages_copies P holds = dying_copies P old new ages.same_shape holds ages.same
+  ages_copies P holds = dying_copies P old new ages.leaves.same_shape holds ages.same
 
 -- by the names of the sides
 by_name : (p q : Bool) (x x' y y' : Shown) → q ≡ p → Ages x y → Ages x' y' → Ages (if p then x else x') (if q then y else y')

@@ -18,12 +18,11 @@ use Rattle.model_drive.specs.declared.RecordOut.TheVariants as records
 use Rattle.model_mirror.specs.declared.Waking.{Waking}
 use Rattle.model_mirror.proofs.Somehow.{power_somehow}
 use Rattle.model_mirror.specs.Shown.{MirrorShown, exchanged}
-use Rattle.model_mirror.specs.Standing.{StandsSomehow}
+use Rattle.model_mirror.specs.Standing.{StandsSomehow, MayBe}
 use Rattle.model_mirror.specs.Powers.{MirrorPowerCause, NobodyLeads, LeadStops, stop_of, Starts, Leads, GoesOn, Follows, Finishes, is_to_lead, can_tell, still_tells, stays_on, MirrorPowerStep, StandsMounted, on_or_off, LeadPowerStep, of_lead}
-use Rattle.model_mirror_laws.specs.Sides.{side_a, side_b, side_of}
-use Rattle.model_mirror_laws.specs.Kept.{AreSides}
-use Rattle.model_mirror_laws.specs.Ahead.{IsAhead, KnowsRecords, WakesInShape, WakesWithCopies, SideIsAhead}
-use Rattle.model_mirror_laws.specs.Bytes.{MayBe, PowersSo, HasSector, AllHave, HoldsSector, ShowsSector, KeepsSector, IsKept, IsReopened, BeginsAgain}
+use Rattle.model_mirror.specs.Sides.{side_a, side_b, side_of}
+use Rattle.model_mirror_laws.specs.Ahead.{IsAhead, KnowsRecords, CopiesLast, SideIsAhead}
+use Rattle.model_mirror_laws.specs.Bytes.{PowersSo, HasSector, AllHave, HoldsSector, ShowsSector, KeepsSector, IsKept, IsReopened, BeginsAgain}
 use Rattle.model_drive.proofs.Dying.{same_off, same_candidates}
 use Rattle.model_mirror_laws.proofs.Numbers.{dying_copies}
 use Rattle.model_mirror_laws.proofs.Knowing.{knows_lead, power_knows}
@@ -155,7 +154,7 @@ module _ (at : ℕ) (bytes : List ℕ) where
 
   -- a mirror that is on after the power on
   lead_shows : (new : MirrorShown) (s : Standing) (out : MirrorPowerOut) → AllHave at bytes s → (new.on ≡ true → IsOnOut out) → LeadPowerStep new.lead (MayBe new) s out → new.on ≡ true → ShowsSector at bytes new
-  lead_shows new s (outs.Ready known) each answered step on = record { standing = On step.finds.disc; stands = step.finds.found; each = (first_has _ _ step.finds.lists (candidates s) step.finds.disc step.finds.first each, tt) }
+  lead_shows new s (outs.Ready known) each answered step on = record { standing = On step.1.finds.disc; stands = step.1.finds.found; each = (first_has _ _ step.1.finds.lists (candidates s) step.1.finds.disc step.1.finds.first each, tt) }
   lead_shows new s outs.NotFormatted each answered step on = record { standing = On []; stands = step; each = (no_sectors, tt) }
   lead_shows new s outs.Unknown each answered step on = absurd (answered on)
   lead_shows new s outs.Cut each answered step on = absurd (answered on)
@@ -192,13 +191,13 @@ module _ (at : ℕ) (bytes : List ℕ) where
         go false e = (false, b_keeps two (inl one) (λ _. e))
 
 -- The power on.
-module _ (shape : Shape) (old new : MirrorShown) (sides : AreSides shape old) (sides' : AreSides shape new) (out : MirrorPowerOut) (cause : MirrorPowerCause old new out) (whole : WakesInShape shape old new out cause)
-    (copies : WakesWithCopies old new out cause) (so : PowersSo old new out) (knows : KnowsRecords old) (at : ℕ) (bytes : List ℕ) where
+module _ (old new : MirrorShown) (out : MirrorPowerOut) (cause : MirrorPowerCause old new out)
+    (copies : CopiesLast old new) (so : PowersSo old new out) (knows : KnowsRecords old) (at : ℕ) (bytes : List ℕ) where
   known_on : KnowsLeadWhenOn new
-  known_on on = ((power_knows shape old new out cause sides sides' whole (knows_lead old knows)).leads on).known
+  known_on on = ((power_knows old new out cause (knows_lead old knows)).leads on).known
 
   again : (on_a : Bool) → SideIsAhead on_a old → (old.who.known ≡ true → old.lead_is_a ≡ on_a) → SideIsAhead on_a new × (new.who.known ≡ true → new.lead_is_a ≡ on_a)
-  again = leads_again shape old new sides sides' out cause whole copies knows
+  again = leads_again old new out cause copies knows
 
   answered : new.on ≡ true → IsOnOut out
   answered on = on_answer old new out cause on
@@ -215,15 +214,15 @@ module _ (shape : Shape) (old new : MirrorShown) (sides : AreSides shape old) (s
         (false, b_keeps at bytes new out known_on answered keeps.other.standing keeps.holds.standing (so _ _ keeps.other.stands keeps.holds.stands) keeps.holds.each (inr still.0) still.1)
   ]
 
-pub power_keeps_sector : (shape : Shape) (old new : MirrorShown) → AreSides shape old → AreSides shape new → (out : MirrorPowerOut) (cause : MirrorPowerCause old new out) → WakesInShape shape old new out cause
-    → WakesWithCopies old new out cause → PowersSo old new out → KnowsRecords old → (at : ℕ) (bytes : List ℕ) → IsKept at bytes old → IsKept at bytes new
-power_keeps_sector shape old new sides sides' out cause whole copies so knows at bytes (on_a, keeps) = comes shape old new sides sides' out cause whole copies so knows at bytes on_a keeps
+pub power_keeps_sector : (old new : MirrorShown) (out : MirrorPowerOut) (cause : MirrorPowerCause old new out)
+    → CopiesLast old new → PowersSo old new out → KnowsRecords old → (at : ℕ) (bytes : List ℕ) → IsKept at bytes old → IsKept at bytes new
+power_keeps_sector old new out cause copies so knows at bytes (on_a, keeps) = comes old new out cause copies so knows at bytes on_a keeps
 
 -- A side that was opened anew.
 module _ (old new : Shown) (opened : IsReopened old new) where
   opened_stands : (s : Standing) → StandsFor old s → StandsFor new (Off (candidates s))
-  opened_stands (On disc) stands = same_off old new opened.same_shape opened.as_known opened.off opened.same disc stands
-  opened_stands (Off discs) stands = same_candidates old new opened.same_shape opened.as_known opened.off opened.same discs stands
+  opened_stands (On disc) stands = same_off old new opened.leaves.same_shape opened.as_known opened.off opened.same disc stands
+  opened_stands (Off discs) stands = same_candidates old new opened.leaves.same_shape opened.as_known opened.off opened.same discs stands
 
   opened_somehow : StandsSomehow (StandsFor old) → StandsSomehow (StandsFor new)
   opened_somehow some = record { standing = Off (candidates some.standing); stands = opened_stands some.standing some.stands }
@@ -234,8 +233,8 @@ module _ (old new : Shown) (opened : IsReopened old new) where
 opened_ahead : (x x' y y' : Shown) → IsReopened x x' → IsReopened y y' → IsAhead x y → IsAhead x' y'
 opened_ahead x x' y y' one two ahead = record {
   between = ahead.between;
-  above = dying_copies (λ number. ahead.between < number) x x' one.same_shape ahead.above one.same;
-  below = dying_copies (λ number. number ≤ ahead.between) y y' two.same_shape ahead.below two.same;
+  above = dying_copies (λ number. ahead.between < number) x x' one.leaves.same_shape ahead.above one.same;
+  below = dying_copies (λ number. number ≤ ahead.between) y y' two.leaves.same_shape ahead.below two.same;
 }
 
 -- by the names that the sides had, and have

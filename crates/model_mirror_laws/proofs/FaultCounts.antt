@@ -29,7 +29,7 @@ use Rattle.model_mirror.specs.Writes.{LeadWrites, WritesElsewhere, WriteStopped,
 use Rattle.model_mirror.specs.Whole.{FormatsOn, MirrorFormatCause, WritesCopy, CopyEnds, CopyGoesOn, CopiesBlock, MendGoesOn, MendsLack, MendEnds, WritesBack, MendsBlock, once_written, GoesThrough, GoesThroughBlocks, CopyStopped, ResyncsOn, ResyncCause}
 use Rattle.model_mirror.specs.Powers.{WakesSide, NobodyLeads, LeadStops, stop_of, Follows, GoesOn, Leads, Starts, Finishes, is_to_lead, can_tell, still_tells, stays_on, MirrorPowerCause}
 use Rattle.model_mirror.specs.Giving.{IsNotGiven, GiveLeadCause, is_to_turn}
-use Rattle.model_mirror_laws.specs.Sides.{side_a, side_b, OneFailed}
+use Rattle.model_mirror.specs.Sides.{side_a, side_b, OneFailed}
 
 -- Counts.
 same_less : (a b : ℕ) → b ≡ a → a ≤ b
@@ -319,7 +319,7 @@ pub format_fault : (old new : MirrorShown) → MirrorFormatCause old new formats
 format_fault old new cause = go old.on cause
   where
     go : (b : Bool) → MatchBool b (FormatsOn old new formats.Fault) ((formats.Fault ≡ formats.Off) × (new ≡ old)) → OneFailed old new
-    go true c = failed_less old c.mid new (lead_failed old c.mid (ap (λ (s : MirrorShown). s.lead_is_a) c.lead.1) (format_faults old.lead c.mid.lead (kinds.Full true) formats.Fault c.lead.0)) (off_less c.mid new c.new_is)
+    go true c = failed_less old c.mid new (lead_failed old c.mid (ap (λ (s : MirrorShown). s.lead_is_a) c.lead.1) (format_faults old.lead c.mid.lead (kinds.Full true) formats.Fault c.lead.0.formatted)) (off_less c.mid new c.new_is)
     go false p = absurd (let w = p.0 in cc)
 
 -- One block in a resynchronisation.

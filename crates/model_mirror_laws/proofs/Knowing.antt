@@ -9,7 +9,7 @@ use Rattle.model_drive.specs.declared.WriteOut.{WriteOut}
 use Rattle.model_drive.specs.declared.FormatOut.{FormatOut}
 use Rattle.model_drive.specs.declared.RecordOut.{RecordOut}
 use Rattle.model_drive.specs.declared.RecordOut.TheVariants as records
-use Rattle.model_drive.specs.Shown.{Shown, IsKnown}
+use Rattle.model_drive.specs.Shown.{IsKnown}
 use Rattle.model_mirror.specs.declared.MirrorPowerOut.{MirrorPowerOut}
 use Rattle.model_mirror.specs.declared.MirrorPowerOut.TheVariants as outs
 use Rattle.model_mirror.specs.declared.Resync.{Resync}
@@ -23,7 +23,7 @@ use Rattle.model_mirror.specs.Whole.{MirrorFormatCause, ResyncCause}
 use Rattle.model_mirror.specs.Powers.{MirrorPowerCause, NobodyLeads, LeadStops, stop_of, Starts, Leads, GoesOn, Follows, RaisesFirst, Finishes, is_to_lead, is_read, can_tell, still_tells, stays_on}
 use Rattle.model_mirror.proofs.Ahead.{leads_ahead}
 use Rattle.model_mirror_laws.specs.Kept.{AreSides, KeepsRecords, TakesBetween, LeavesRecords}
-use Rattle.model_mirror_laws.specs.Ahead.{HoldsOfCopies, IsAhead, IsNoted, LeadsByNumber, KnowsRecords, WakesInShape}
+use Rattle.model_mirror_laws.specs.Ahead.{HoldsOfCopies, IsAhead, IsNoted, LeadsByNumber, KnowsRecords}
 use Rattle.model_mirror_laws.proofs.MirrorRecords.{read_leaves, write_leaves, format_leaves, resync_leaves}
 use Rattle.model_mirror_laws.proofs.Numbers.{kept_copies, woke_known, woke_exact, woke_seen, woke_noted, raised_known, raised_new, raised_exact, raised_noted, raised_seen}
 
@@ -112,8 +112,8 @@ taken_knows mid late taken knows leads =
     taken_seen = raised_seen mid.other taken.late.other mid.who.other taken.late.who.other mid.who.lead.most records.Good taken.wrote.raises leads.other_seen
 
 -- or it did not
-not_taken_knows : (mid late : MirrorShown) → IsNotTaken mid late → late.other.shape ≡ mid.other.shape → KnowsLead mid → LeadsByNumber mid → KnowsLead late
-not_taken_knows mid late taken shape knows leads = go (may_lead mid) taken.why
+not_taken_knows : (mid late : MirrorShown) → IsNotTaken mid late → KnowsLead mid → LeadsByNumber mid → KnowsLead late
+not_taken_knows mid late taken knows leads = go (may_lead mid) taken.why
   where
     is : late.other ≡ taken.late.other
     is = ap (λ (s : MirrorShown). s.other) taken.new_is
@@ -127,7 +127,7 @@ not_taken_knows mid late taken shape knows leads = go (may_lead mid) taken.why
           other_known = subst IsKnown (sym is) (raised_known mid.other taken.late.other mid.who.other taken.late.who.other mid.who.lead.most knows.other_known c.told c.wrote.raises);
           not_by_hand = ap (λ (s : MirrorShown). s.who.by_hand) taken.new_is ∙ ap (λ (s : MirrorShown). s.who.by_hand) c.wrote.new_is ∙ knows.not_by_hand;
           noted = λ _. subst (λ (n : Noted). HoldsOfCopies (λ number. number ≤ n.most) late.other) (sym who) (subst (HoldsOfCopies (λ number. number ≤ taken.late.who.other.most)) (sym is)
-              (raised_noted mid.other taken.late.other mid.who.other taken.late.who.other mid.who.lead.most knows.other_known (sym (ap (λ (s : Shown). s.shape) is) ∙ shape) c.told c.wrote.raises (knows.noted leads.other_seen)));
+              (raised_noted mid.other taken.late.other mid.who.other taken.late.who.other mid.who.lead.most knows.other_known c.told c.wrote.raises (knows.noted leads.other_seen)));
         }
 
     stays : taken.late ≡ mid → KnowsLead late
@@ -139,7 +139,7 @@ not_taken_knows mid late taken shape knows leads = go (may_lead mid) taken.why
     go true c = cannot c
     go false same = stays same
 
-module _ (shape : Shape) (old new : MirrorShown) (sides : AreSides shape old) (sides' : AreSides shape new) (knows : KnowsRecords old) where
+module _ (old new : MirrorShown) (knows : KnowsRecords old) where
   -- a mirror that was on
   keeps_knows : old.on ≡ true → KeepsRecords old new → KnowsRecords new
   keeps_knows on keeps = with_leads new (kept_lead old new keeps (knows_lead old knows)) (λ _. kept_leads old new keeps (knows.leads on))
@@ -158,8 +158,7 @@ module _ (shape : Shape) (old new : MirrorShown) (sides : AreSides shape old) (s
           let late = taken_knows t.mid t.late taken mid_knows mid_leads in
           with_leads new (kept_lead t.late new t.after late.0) (λ _. kept_leads t.late new t.after late.1)
       go false taken =
-          let same : t.late.other.shape ≡ t.mid.other.shape = sym t.after.other.same_shape ∙ sides'.other_shape ∙ sym (t.before.other.same_shape ∙ sides.other_shape) in
-          let late = not_taken_knows t.mid t.late taken same mid_knows mid_leads in
+          let late = not_taken_knows t.mid t.late taken mid_knows mid_leads in
           with_leads new (kept_lead t.late new t.after late) (λ is. absurd (let e : false ≡ true = sym (t.stays_off (ap (λ (s : MirrorShown). s.on) taken.new_is)) ∙ is in cc))
 
   leaves_knows : old.on ≡ true → LeavesRecords old new → KnowsRecords new
@@ -171,17 +170,18 @@ module _ (shape : Shape) (old new : MirrorShown) (sides : AreSides shape old) (s
   by_on X Y each true e cause = each cause e
   by_on X Y each false e p = same_knows old new p.1 knows
 
-  pub read_knows : (lba n : ℕ) (out : ReadOut) → MirrorReadCause old new lba n out → KnowsRecords new
-  read_knows lba n out cause = by_on _ _ (λ _ on. leaves_knows on (read_leaves lba n shape old new sides sides' out cause)) old.on refl cause
-
-  pub write_knows : (lba n : ℕ) (out : WriteOut) → MirrorWriteCause old new lba n out → KnowsRecords new
-  write_knows lba n out cause = by_on _ _ (λ _ on. leaves_knows on (write_leaves lba n shape old new sides sides' out cause)) old.on refl cause
-
   pub format_knows : (out : FormatOut) → MirrorFormatCause old new out → KnowsRecords new
-  format_knows out cause = by_on _ _ (λ _ on. keeps_knows on (format_leaves shape old new sides sides' out cause)) old.on refl cause
+  format_knows out cause = by_on _ _ (λ _ on. keeps_knows on (format_leaves old new out cause)) old.on refl cause
 
-  pub resync_knows : (out : Resync) → ResyncCause old new out → KnowsRecords new
-  resync_knows out cause = by_on _ _ (λ _ on. keeps_knows on (resync_leaves shape old new sides out cause)) old.on refl cause
+  module _ (shape : Shape) (sides : AreSides shape old) where
+    pub read_knows : (lba n : ℕ) (out : ReadOut) → MirrorReadCause old new lba n out → KnowsRecords new
+    read_knows lba n out cause = by_on _ _ (λ _ on. leaves_knows on (read_leaves lba n shape old new sides out cause)) old.on refl cause
+
+    pub write_knows : (lba n : ℕ) (out : WriteOut) → MirrorWriteCause old new lba n out → KnowsRecords new
+    write_knows lba n out cause = by_on _ _ (λ _ on. leaves_knows on (write_leaves lba n shape old new sides out cause)) old.on refl cause
+
+    pub resync_knows : (out : Resync) → ResyncCause old new out → KnowsRecords new
+    resync_knows out cause = by_on _ _ (λ _ on. keeps_knows on (resync_leaves shape old new sides out cause)) old.on refl cause
 
 -- What is there once both sides woke, for the one that is to lead and for the other one.
 pub record HasWoken (mid : MirrorShown) (read other : RecordOut) : Type 0 where
@@ -221,21 +221,21 @@ module _ (mid late : MirrorShown) (above : ℕ) (raised : RecordOut) (raises : L
   }
 
 -- A record of the other side with the number 0 gets 1.
-first_knows : (mid late : MirrorShown) (asked : Bool) (raised : RecordOut) → RaisesFirst mid late asked raised → late.other.shape ≡ mid.other.shape → mid.who.other.seen ≡ true → KnowsLead mid
+first_knows : (mid late : MirrorShown) (asked : Bool) (raised : RecordOut) → RaisesFirst mid late asked raised → mid.who.other.seen ≡ true → KnowsLead mid
     → KnowsLead late × (late.who.other.seen ≡ true) × (late.lead ≡ mid.lead) × (late.who.lead ≡ mid.who.lead) × (late.who.known ≡ mid.who.known)
-first_knows mid late true raised r shape seen knows = (
+first_knows mid late true raised r seen knows = (
   record {
     lead_known = subst IsKnown (sym (ap (λ (s : MirrorShown). s.lead) r.new_is)) knows.lead_known;
     other_known = raised_known mid.other late.other mid.who.other late.who.other 0 knows.other_known raised r.raises;
     not_by_hand = ap (λ (s : MirrorShown). s.who.by_hand) r.new_is ∙ knows.not_by_hand;
-    noted = λ _. raised_noted mid.other late.other mid.who.other late.who.other 0 knows.other_known shape raised r.raises (knows.noted seen);
+    noted = λ _. raised_noted mid.other late.other mid.who.other late.who.other 0 knows.other_known raised r.raises (knows.noted seen);
   },
   raised_seen mid.other late.other mid.who.other late.who.other 0 raised r.raises seen,
   ap (λ (s : MirrorShown). s.lead) r.new_is,
   ap (λ (s : MirrorShown). s.who.lead) r.new_is,
   ap (λ (s : MirrorShown). s.who.known) r.new_is,
 )
-first_knows mid late false raised r shape seen knows = (
+first_knows mid late false raised r seen knows = (
   subst KnowsLead (sym r.0) knows,
   ap (λ (s : MirrorShown). s.who.other.seen) r.0 ∙ seen,
   ap (λ (s : MirrorShown). s.lead) r.0,
@@ -263,7 +263,7 @@ told_seen who records.Fault hand can seen = both who.known who.other.seen can
     both true b e = e
     both false b e = absurd (let w = e in cc)
 
-module _ (shape : Shape) (new : MirrorShown) (new_other : new.other.shape ≡ shape) (lead other : Waking) (out : MirrorPowerOut) where
+module _ (new : MirrorShown) (lead other : Waking) (out : MirrorPowerOut) where
   -- the power is on: the lead is as its record was made
   finishes_knows : (late : MirrorShown) (there : PowerOut) (on : Bool) (power : PowerOut) → Finishes late new there on power out → KnowsLead late → late.on ≡ false
       → (((known : ℕ) → (out ≡ outs.Ready known) ⊎ (out ≡ outs.NotFormatted) → new.who.other.most < new.who.lead.most) → HoldsOfCopies (λ number. number ≡ late.who.lead.most) late.lead
@@ -299,21 +299,7 @@ module _ (shape : Shape) (new : MirrorShown) (new_other : new.other.shape ≡ sh
   finishes_knows late there on power_outs.Cut ends knows off greater exact seen seen' = nobody_knows late new out knows ends
   finishes_knows late there on power_outs.Fault ends knows off greater exact seen seen' = nobody_knows late new out knows ends
 
-  -- what the other side shows is what it showed before that
-  finished_other : (late : MirrorShown) (there : PowerOut) (on : Bool) (power : PowerOut) → Finishes late new there on power out → new.other ≡ late.other
-  finished_other late there on (power_outs.Ready known) ends = ap (λ (s : MirrorShown). s.other) ends.new_is
-  finished_other late there on power_outs.NotFormatted ends = ap (λ (s : MirrorShown). s.other) ends.new_is
-  finished_other late there on power_outs.Cut ends = ap (λ (s : MirrorShown). s.other) ends.new_is
-  finished_other late there on power_outs.Fault ends = ap (λ (s : MirrorShown). s.other) ends.new_is
-
-  follows_other : (mid : MirrorShown) (f : Follows mid new lead other out) → new.other ≡ f.late.other
-  follows_other mid f = go (still_tells f.late.who f.raised) f.ends
-    where
-      go : (b : Bool) → MatchBool b (Finishes f.late new other.power (stays_on other.record && stays_on f.raised) lead.power out) (NobodyLeads f.late new out) → new.other ≡ f.late.other
-      go true ends = finished_other f.late other.power _ lead.power ends
-      go false nobody = ap (λ (s : MirrorShown). s.other) nobody.new_is
-
-  module _ (mid : MirrorShown) (mid_other : mid.other.shape ≡ shape) (woken : HasWoken mid lead.record other.record) (can : can_tell mid.who other.record ≡ true) (read : lead.record ≡ records.Good) where
+  module _ (mid : MirrorShown) (woken : HasWoken mid lead.record other.record) (can : can_tell mid.who other.record ≡ true) (read : lead.record ≡ records.Good) where
     leads_knows : Leads mid new lead other out → KnowsRecords new
     leads_knows leads = go leads.raised leads.raises leads.ends (λ known is. leads_ahead mid new lead other out known leads is)
       where
@@ -324,11 +310,8 @@ module _ (shape : Shape) (new : MirrorShown) (new_other : new.other.shape ≡ sh
             → ((known : ℕ) → (out ≡ outs.Ready known) ⊎ (out ≡ outs.NotFormatted) → new.who.other.most < new.who.lead.most) → KnowsRecords new
         follows raises f greater = ends (still_tells f.late.who f.raised) f.ends
           where
-            late_other : f.late.other.shape ≡ leads.late.other.shape
-            late_other = sym (ap (λ (s : Shown). s.shape) (follows_other leads.late f)) ∙ new_other ∙ sym (ap (λ (s : Shown). s.shape) (raises_other mid leads.late _ records.Good raises) ∙ mid_other)
-
             first : KnowsLead f.late × (f.late.who.other.seen ≡ true) × (f.late.lead ≡ leads.late.lead) × (f.late.who.lead ≡ leads.late.who.lead) × (f.late.who.known ≡ leads.late.who.known)
-            first = first_knows leads.late f.late (is_read other.record) f.raised f.raises late_other (ap (λ (n : Noted). n.seen) (raises_who mid leads.late _ records.Good raises) ∙ seen) (raises_knows mid leads.late _ records.Good raises woken.knows)
+            first = first_knows leads.late f.late (is_read other.record) f.raised f.raises (ap (λ (n : Noted). n.seen) (raises_who mid leads.late _ records.Good raises) ∙ seen) (raises_knows mid leads.late _ records.Good raises woken.knows)
 
             exact : HoldsOfCopies (λ number. number ≡ f.late.who.lead.most) f.late.lead
             exact = subst (λ (n : Noted). HoldsOfCopies (λ number. number ≡ n.most) f.late.lead) (sym first.3) (subst (HoldsOfCopies (λ number. number ≡ leads.late.who.lead.most)) (sym first.2)
@@ -363,16 +346,16 @@ module _ (shape : Shape) (new : MirrorShown) (new_other : new.other.shape ≡ sh
       go true p = same_knows mid new p.1 (off_knows mid off knows)
       go false nobody = nobody_knows mid new out knows nobody
 
-  starts_knows : (mid : MirrorShown) → mid.other.shape ≡ shape → (record_out : RecordOut) → lead.record ≡ record_out → HasWoken mid lead.record other.record → Starts mid new lead other out record_out → KnowsRecords new
-  starts_knows mid mid_other records.Good read woken starts = go (can_tell mid.who other.record) refl starts
+  starts_knows : (mid : MirrorShown) (record_out : RecordOut) → lead.record ≡ record_out → HasWoken mid lead.record other.record → Starts mid new lead other out record_out → KnowsRecords new
+  starts_knows mid records.Good read woken starts = go (can_tell mid.who other.record) refl starts
     where
       go : (b : Bool) → can_tell mid.who other.record ≡ b → MatchBool b (Leads mid new lead other out) (NobodyLeads mid new out) → KnowsRecords new
-      go true can leads = leads_knows mid mid_other woken can read leads
+      go true can leads = leads_knows mid woken can read leads
       go false can nobody = nobody_knows mid new out woken.knows nobody
-  starts_knows mid mid_other records.Lost read woken starts = nobody_knows mid new out woken.knows starts
-  starts_knows mid mid_other records.Cut read woken starts = stops_knows mid outs.Cut woken.off woken.knows starts
-  starts_knows mid mid_other records.Off read woken starts = stops_knows mid (stop_of lead.power) woken.off woken.knows starts
-  starts_knows mid mid_other records.Fault read woken starts = stops_knows mid outs.Fault woken.off woken.knows starts
+  starts_knows mid records.Lost read woken starts = nobody_knows mid new out woken.knows starts
+  starts_knows mid records.Cut read woken starts = stops_knows mid outs.Cut woken.off woken.knows starts
+  starts_knows mid records.Off read woken starts = stops_knows mid (stop_of lead.power) woken.off woken.knows starts
+  starts_knows mid records.Fault read woken starts = stops_knows mid outs.Fault woken.off woken.knows starts
 
 -- Both records were read where the other side is to lead, and who leads was not known; and its number is no less.
 pub read_good : (out : RecordOut) → is_read out ≡ true → out ≡ records.Good
@@ -396,45 +379,29 @@ both_read known lead other before e =
     (read_good lead (and_right (not known) (is_read lead) (and_left (not known && is_read lead) (is_read other) first)), read_good other (and_right (not known && is_read lead) (is_read other) first))
 
 -- Both sides woke.
-module _ (shape : Shape) (old new : MirrorShown) (out : MirrorPowerOut) (cause : MirrorPowerCause old new out) (sides : AreSides shape old) (sides' : AreSides shape new)
-    (whole : WakesInShape shape old new out cause) (knows : KnowsLead old) where
-  abbrev mid : MirrorShown
-  mid = cause.mid
-
-  pub lead_mounted : cause.wakes.led.mounted.shape ≡ old.lead.shape
-  lead_mounted = whole.lead_mounted ∙ sym sides.lead_shape
-
-  pub lead_woke : cause.mid.lead.shape ≡ cause.wakes.led.mounted.shape
-  lead_woke = whole.lead_woke ∙ sym whole.lead_mounted
-
-  pub other_mounted : cause.wakes.followed.mounted.shape ≡ old.other.shape
-  other_mounted = whole.other_mounted ∙ sym sides.other_shape
-
-  pub other_woke : cause.mid.other.shape ≡ cause.wakes.followed.mounted.shape
-  other_woke = whole.other_woke ∙ sym whole.other_mounted
-
+module _ (old new : MirrorShown) (out : MirrorPowerOut) (cause : MirrorPowerCause old new out) (knows : KnowsLead old) where
   pub mid_knows : KnowsLead cause.mid
   mid_knows = record {
-    lead_known = woke_known old.lead cause.mid.lead old.who.lead cause.mid.who.lead cause.lead cause.wakes.led knows.lead_known lead_mounted lead_woke;
-    other_known = woke_known old.other cause.mid.other old.who.other cause.mid.who.other cause.other cause.wakes.followed knows.other_known other_mounted other_woke;
+    lead_known = woke_known old.lead cause.mid.lead old.who.lead cause.mid.who.lead cause.lead cause.wakes.led knows.lead_known;
+    other_known = woke_known old.other cause.mid.other old.who.other cause.mid.who.other cause.other cause.wakes.followed knows.other_known;
     not_by_hand = ap (λ (s : MirrorShown). s.who.by_hand) cause.wakes.new_is ∙ knows.not_by_hand;
-    noted = woke_noted old.other cause.mid.other old.who.other cause.mid.who.other cause.other cause.wakes.followed knows.other_known other_mounted other_woke knows.noted;
+    noted = woke_noted old.other cause.mid.other old.who.other cause.mid.who.other cause.other cause.wakes.followed knows.other_known knows.noted;
   }
 
   mid_off : cause.mid.on ≡ false
   mid_off = ap (λ (s : MirrorShown). s.on) cause.wakes.new_is
 
   pub lead_exact : cause.lead.record ≡ records.Good → HoldsOfCopies (λ number. number ≡ cause.mid.who.lead.most) cause.mid.lead
-  lead_exact = woke_exact old.lead cause.mid.lead old.who.lead cause.mid.who.lead cause.lead cause.wakes.led knows.lead_known lead_mounted lead_woke
+  lead_exact = woke_exact old.lead cause.mid.lead old.who.lead cause.mid.who.lead cause.lead cause.wakes.led knows.lead_known
 
   lead_seen : cause.lead.record ≡ records.Good → cause.mid.who.lead.seen ≡ true
-  lead_seen = woke_seen old.lead cause.mid.lead old.who.lead cause.mid.who.lead cause.lead cause.wakes.led knows.lead_known lead_mounted lead_woke
+  lead_seen = woke_seen old.lead cause.mid.lead old.who.lead cause.mid.who.lead cause.lead cause.wakes.led knows.lead_known
 
   pub other_exact : cause.other.record ≡ records.Good → HoldsOfCopies (λ number. number ≡ cause.mid.who.other.most) cause.mid.other
-  other_exact = woke_exact old.other cause.mid.other old.who.other cause.mid.who.other cause.other cause.wakes.followed knows.other_known other_mounted other_woke
+  other_exact = woke_exact old.other cause.mid.other old.who.other cause.mid.who.other cause.other cause.wakes.followed knows.other_known
 
   pub other_seen : cause.other.record ≡ records.Good → cause.mid.who.other.seen ≡ true
-  other_seen = woke_seen old.other cause.mid.other old.who.other cause.mid.who.other cause.other cause.wakes.followed knows.other_known other_mounted other_woke
+  other_seen = woke_seen old.other cause.mid.other old.who.other cause.mid.who.other cause.other cause.wakes.followed knows.other_known
 
   pub has_woken : HasWoken cause.mid cause.lead.record cause.other.record
   has_woken = record { off = mid_off; knows = mid_knows; exact = lead_exact; lead_seen = lead_seen; other_seen = other_seen }
@@ -460,8 +427,8 @@ module _ (shape : Shape) (old new : MirrorShown) (out : MirrorPowerOut) (cause :
           → MatchBool b (Starts (exchanged cause.mid) new cause.other cause.lead out cause.other.record) (Starts cause.mid new cause.lead cause.other out cause.lead.record) → KnowsRecords new
       go true e starts =
           let read = both_read cause.mid.who.known cause.lead.record cause.other.record _ e in
-          starts_knows shape new sides'.other_shape cause.other cause.lead out (exchanged cause.mid) whole.lead_woke cause.other.record refl (has_woken_exchanged read.0) starts
-      go false e starts = starts_knows shape new sides'.other_shape cause.lead cause.other out cause.mid whole.other_woke cause.lead.record refl has_woken starts
+          starts_knows new cause.other cause.lead out (exchanged cause.mid) cause.other.record refl (has_woken_exchanged read.0) starts
+      go false e starts = starts_knows new cause.lead cause.other out cause.mid cause.lead.record refl has_woken starts
 
 -- A run begins with both sides off, and with no record that was seen.
 pub begins_knows : (shown : MirrorShown) → IsKnown shown.lead → IsKnown shown.other → shown.on ≡ false → shown.who.by_hand ≡ false → shown.who.other.seen ≡ false → KnowsRecords shown

@@ -1,8 +1,10 @@
+pub mod Soundness
 pub mod FaultCounts
 pub mod SideRecords
 pub mod MirrorRecords
 pub mod Numbers
 pub mod Knowing
+pub mod LastingCopies
 pub mod Again
 pub mod Comes
 pub mod Staying

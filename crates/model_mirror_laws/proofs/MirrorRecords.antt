@@ -4,11 +4,11 @@ use Rattle.std.proofs.Common.{refl, sym, ap, ◌∙◌, inl, inr, subst}
 use Rattle.model_geometry.specs.Geometry.{Shape}
 use Rattle.model_sectors.specs.declared.ReadOut.{ReadOut}
 use Rattle.model_sectors.specs.declared.ReadOut.TheVariants as reads
-use Rattle.model_places.specs.Valid.{AreValid}
 use Rattle.model_drive.specs.declared.WriteOut.{WriteOut}
 use Rattle.model_drive.specs.declared.WriteOut.TheVariants as writes
 use Rattle.model_drive.specs.declared.FormatOut.{FormatOut}
 use Rattle.model_drive.specs.declared.FormatOut.TheVariants as formats
+use Rattle.model_drive.specs.declared.RecordOut.{RecordOut}
 use Rattle.model_drive.specs.declared.RecordOut.TheVariants as records
 use Rattle.model_drive.specs.Shown.{Shown}
 use Rattle.model_mirror.specs.declared.Resync.{Resync}
@@ -21,7 +21,7 @@ use Rattle.model_mirror.specs.Reads.{LeadReads, AsksOther, EndsPart, MirrorReads
 use Rattle.model_mirror.specs.Writes.{LeadWrites, OtherEnds, OtherWrites, WritesBoth, LeadRefuses, WritesLed, WritesElsewhere, WriteStopped, WritesWithSides, MirrorWriteCause, after_lone_write}
 use Rattle.model_mirror.specs.Whole.{LeadFormats, FormatsBoth, FormatsLead, FormatStopped, FormatsOn, MirrorFormatCause, WritesCopy, CopyEnds, CopyGoesOn, CopiesBlock, WritesBack, MendEnds, MendsLack, MendGoesOn, MendsBlock, GoesThrough, GoesThroughBlocks, CopyStopped, ResyncStopped, ResyncsOn, ResyncCause}
 use Rattle.model_mirror_laws.specs.Kept.{AreSides, KeepsRecord, KeepsRecords, LeavesRecords}
-use Rattle.model_mirror_laws.proofs.SideRecords.{HasValid, sound_valid, record_same, record_then, reads_side, writes_side, format_keeps}
+use Rattle.model_mirror_laws.proofs.SideRecords.{HasValid, sound_valid, record_same, record_then, reads_side, writes_side, formats_side}
 
 -- Both records are left, and the lists in use are valid.
 pub record Stays (old new : MirrorShown) : Type 0 where
@@ -38,9 +38,6 @@ AreValidSides shown = HasValid shown.lead × HasValid shown.other
 
 valid_same : (old new : Shown) → new ≡ old → HasValid old → HasValid new
 valid_same old new same valid = subst HasValid (sym same) valid
-
-pub valid_by : (old new : Shown) → new.shape ≡ old.shape → new.lists ≡ old.lists → HasValid old → HasValid new
-valid_by old new shape lists valid l e = subst (λ (s : Shape). AreValid s l) (sym shape) (valid l (sym lists ∙ e))
 
 pub keeps_then : (x y z : MirrorShown) → KeepsRecords x y → KeepsRecords y z → KeepsRecords x z
 keeps_then x y z one two = record {
@@ -90,21 +87,21 @@ module _ (x y : MirrorShown) where
   lead_writes lba n out valid w = lead_alone valid (ap (λ (s : MirrorShown). s.lead_is_a) w.1) (ap (λ (s : MirrorShown). s.who) w.1) (ap (λ (s : MirrorShown). s.other) w.1)
       (writes_side x.lead y.lead lba n out valid.0 w.0) (sound_valid y.lead w.0.leaves.sound)
 
--- Taking the lead leaves the lists in use.
-raised_lists : (old new : Shown) (was now : Noted) (above : ℕ) → Raises old new was now above records.Good → new.lists ≡ old.lists
-raised_lists old new was now above raises = go (nat_lt above was.most) raises
+-- So they are of a side whose record was made one with a greater number, and that took the lead.
+raised_valid : (old new : Shown) (was now : Noted) (above : ℕ) (out : RecordOut) → Raises old new was now above out → HasValid old → HasValid new
+raised_valid old new was now above out raises valid = go (nat_lt above was.most) raises
   where
-    inner : (b : Bool) → MatchBool b (WritesNumber old new was now (above + 1) records.Good) (WritesNoNumber old new was now × (records.Good ≡ records.Lost)) → new.lists ≡ old.lists
-    inner true wrote = wrote.cause.keeps.keeps.same_lists
-    inner false p = absurd (let w = p.1 in cc)
+    inner : (b : Bool) → MatchBool b (WritesNumber old new was now (above + 1) out) (WritesNoNumber old new was now × (out ≡ records.Lost)) → HasValid new
+    inner true wrote = sound_valid new wrote.leaves.sound
+    inner false p = valid_same old new p.0.same valid
 
-    go : (b : Bool) → MatchBool b (WritesNoNumber old new was now × (records.Good ≡ records.Good)) (MatchBool (nat_lt above last_number) (WritesNumber old new was now (above + 1) records.Good) (WritesNoNumber old new was now × (records.Good ≡ records.Lost))) → new.lists ≡ old.lists
-    go true p = ap (λ (s : Shown). s.lists) p.0.same
+    go : (b : Bool) → MatchBool b (WritesNoNumber old new was now × (out ≡ records.Good)) (MatchBool (nat_lt above last_number) (WritesNumber old new was now (above + 1) out) (WritesNoNumber old new was now × (out ≡ records.Lost))) → HasValid new
+    go true p = valid_same old new p.0.same valid
     go false p = inner (nat_lt above last_number) p
 
-taken_valid : (mid late : MirrorShown) → IsTaken mid late → late.lead.shape ≡ mid.other.shape → HasValid mid.other → HasValid late.lead
-taken_valid mid late taken shape valid = valid_by mid.other late.lead shape
-    (ap (λ (s : MirrorShown). s.lead.lists) taken.new_is ∙ raised_lists mid.other taken.late.other mid.who.other taken.late.who.other mid.who.lead.most taken.wrote.raises) valid
+taken_valid : (mid late : MirrorShown) → IsTaken mid late → HasValid mid.other → HasValid late.lead
+taken_valid mid late taken valid = valid_same taken.late.other late.lead (ap (λ (s : MirrorShown). s.lead) taken.new_is)
+    (raised_valid mid.other taken.late.other mid.who.other taken.late.who.other mid.who.lead.most records.Good taken.wrote.raises valid)
 
 -- what a write by a lead alone leaves of the roles
 after_write : (told : WriteOut) (x : MirrorShown) → ((after_lone_write told x).lead_is_a ≡ x.lead_is_a) × ((after_lone_write told x).who ≡ x.who) × ((after_lone_write told x).other ≡ x.other)
@@ -173,19 +170,15 @@ module _ (lba n : ℕ) where
   after_read reads.Off x = (refl, refl, refl)
   after_read reads.Fault x = (refl, refl, refl)
 
-  module _ (shape : Shape) (old new : MirrorShown) (sides : AreSides shape old) (sides' : AreSides shape new) where
+  module _ (shape : Shape) (old new : MirrorShown) (sides : AreSides shape old) where
     pub old_valid : AreValidSides old
     old_valid = (sound_valid old.lead sides.lead_sound, sound_valid old.other sides.other_sound)
-
-    -- the side that took the lead has the geometry of the one that it was
-    pub late_shape : (mid late : MirrorShown) → Stays old mid → new.lead.shape ≡ late.lead.shape → late.lead.shape ≡ mid.other.shape
-    late_shape mid late stays same = sym same ∙ sides'.lead_shape ∙ sym (stays.keeps.other.same_shape ∙ sides.other_shape)
 
     pub read_around : (out : ReadOut) → (e : ReadsElsewhere old new lba n out) → KeepsRecords old e.mid × KeepsRecords e.late new
     read_around out e =
         let first = reads_led_stays old e.mid old_valid e.lost e.led in
         let roles = after_read out (led_by e.late new.lead) in
-        let valid = taken_valid e.mid e.late e.takes (late_shape e.mid e.late first e.reads.leaves.same_shape) first.other_valid in (
+        let valid = taken_valid e.mid e.late e.takes first.other_valid in (
           first.keeps,
           record {
             lead = reads_side e.late.lead new.lead lba n out valid e.reads;
@@ -265,7 +258,7 @@ module _ (lba n : ℕ) where
     write_around out e =
         let first = lead_writes old e.mid lba n e.lost old_valid e.led in
         let roles = after_write out (led_by e.late new.lead) in
-        let valid = taken_valid e.mid e.late e.takes (late_shape e.mid e.late first e.wrote.leaves.same_shape) first.other_valid in (
+        let valid = taken_valid e.mid e.late e.takes first.other_valid in (
           first.keeps,
           record {
             lead = writes_side e.late.lead new.lead lba n out valid e.wrote;
@@ -296,12 +289,11 @@ module _ (lba n : ℕ) where
         go false p = inl (same_stays old new old_valid p.1).keeps
 
 -- A format.
-module _ (shape : Shape) (old new : MirrorShown) (sides : AreSides shape old) (sides' : AreSides shape new) where
+module _ (old new : MirrorShown) where
   lead_formatted : (mid : MirrorShown) (out : FormatOut) → LeadFormats old mid out → new.lead ≡ mid.lead → KeepsRecord mid.other new.other → new.lead_is_a ≡ mid.lead_is_a → new.who ≡ mid.who
       → KeepsRecords old new
   lead_formatted mid out led same other side who = record {
-    lead = subst (λ (s : Shown). KeepsRecord old.lead s) (sym same)
-        (format_keeps old.lead mid.lead (sym (ap (λ (s : Shown). s.shape) same) ∙ sides'.lead_shape ∙ sym sides.lead_shape) out led.0);
+    lead = subst (λ (s : Shown). KeepsRecord old.lead s) (sym same) (formats_side old.lead mid.lead out led.0);
     other = subst (λ (s : Shown). KeepsRecord s new.other) (ap (λ (s : MirrorShown). s.other) led.1) other;
     same_side = side ∙ ap (λ (s : MirrorShown). s.lead_is_a) led.1;
     same_who = who ∙ ap (λ (s : MirrorShown). s.who) led.1;
@@ -312,9 +304,8 @@ module _ (shape : Shape) (old new : MirrorShown) (sides : AreSides shape old) (s
 
   formats_both : FormatsBoth old new → KeepsRecords old new
   formats_both f =
-      let from : f.mid.other ≡ old.other = ap (λ (s : MirrorShown). s.other) f.lead.1 in
       lead_formatted f.mid formats.Good f.lead (ap (λ (s : MirrorShown). s.lead) f.new_is)
-      (format_keeps f.mid.other new.other (sides'.other_shape ∙ sym (ap (λ (s : Shown). s.shape) from ∙ sides.other_shape)) f.told f.other)
+      (formats_side f.mid.other new.other f.told f.other)
       (ap (λ (s : MirrorShown). s.lead_is_a) f.new_is) (ap (λ (s : MirrorShown). s.who) f.new_is)
 
   formats_lead : (out : FormatOut) → FormatsLead old new out → KeepsRecords old new

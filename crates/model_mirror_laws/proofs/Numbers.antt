@@ -128,28 +128,29 @@ module _ (P : ℕ → Type 0) where
       lead_copies value records.Off cause has = subst (HoldsOfCopies P) (sym cause.nothing) holds
       lead_copies value records.Fault cause has = may_copies value has (cause.left known).may
 
-      -- so that it is made one with a greater number
-      pub raised_copies : (was now : Noted) (above : ℕ) (out : RecordOut) → Raises old new was now above out → (was.most ≤ above → P (above + 1)) → HoldsOfCopies P new
-      raised_copies was now above out raises has = go (nat_lt above was.most) refl raises
-        where
-          same : WritesNoNumber old new was now → HoldsOfCopies P new
-          same p = subst (HoldsOfCopies P) (sym p.same) holds
+  -- so that it is made one with a greater number
+  module _ (old new : Shown) (holds : HoldsOfCopies P old) (known : IsKnown old) where
+    pub raised_copies : (was now : Noted) (above : ℕ) (out : RecordOut) → Raises old new was now above out → (was.most ≤ above → P (above + 1)) → HoldsOfCopies P new
+    raised_copies was now above out raises has = go (nat_lt above was.most) refl raises
+      where
+        same : WritesNoNumber old new was now → HoldsOfCopies P new
+        same p = subst (HoldsOfCopies P) (sym p.same) holds
 
-          inner : (b : Bool) → was.most ≤ above → MatchBool b (WritesNumber old new was now (above + 1) out) (WritesNoNumber old new was now × (out ≡ records.Lost)) → HoldsOfCopies P new
-          inner true less wrote = lead_copies (numbered was (above + 1)) out wrote.cause (has less)
-          inner false less p = same p.0
+        inner : (b : Bool) → was.most ≤ above → MatchBool b (WritesNumber old new was now (above + 1) out) (WritesNoNumber old new was now × (out ≡ records.Lost)) → HoldsOfCopies P new
+        inner true less wrote = lead_copies old new wrote.leaves.same_shape holds known (numbered was (above + 1)) out wrote.cause (has less)
+        inner false less p = same p.0
 
-          go : (b : Bool) → nat_lt above was.most ≡ b → MatchBool b (WritesNoNumber old new was now × (out ≡ records.Good)) (MatchBool (nat_lt above last_number) (WritesNumber old new was now (above + 1) out) (WritesNoNumber old new was now × (out ≡ records.Lost))) → HoldsOfCopies P new
-          go true e p = same p.0
-          go false e p = inner (nat_lt above last_number) (ltb-false above was.most e) p
+        go : (b : Bool) → nat_lt above was.most ≡ b → MatchBool b (WritesNoNumber old new was now × (out ≡ records.Good)) (MatchBool (nat_lt above last_number) (WritesNumber old new was now (above + 1) out) (WritesNoNumber old new was now × (out ≡ records.Lost))) → HoldsOfCopies P new
+        go true e p = same p.0
+        go false e p = inner (nat_lt above last_number) (ltb-false above was.most e) p
 
 -- A side woke: its power went on, and its record was read.
-module _ (old new : Shown) (was now : Noted) (told : Waking) (wakes : WakesSide old new was now told) (known : IsKnown old) (mounted_shape : wakes.mounted.shape ≡ old.shape) (woke_shape : new.shape ≡ wakes.mounted.shape) where
-  mounts : KeepsRecord old wakes.mounted
-  mounts = power_keeps old wakes.mounted mounted_shape told.power wakes.powers
+module _ (old new : Shown) (was now : Noted) (told : Waking) (wakes : WakesSide old new was now told) (known : IsKnown old) where
+  mounted : KeepsRecord old wakes.mounted
+  mounted = power_keeps old wakes.mounted wakes.mounts.same_shape told.power wakes.powers
 
   mounted_known : IsKnown wakes.mounted
-  mounted_known = mounts.as_known ∙ known
+  mounted_known = mounted.as_known ∙ known
 
   pub woke_known : IsKnown new
   woke_known = (generation_kept wakes.mounted new wakes.notes.value told.record wakes.notes.cause).as_known ∙ mounted_known
@@ -161,10 +162,10 @@ module _ (old new : Shown) (was now : Noted) (told : Waking) (wakes : WakesSide 
     area = last.area;
     copy = record {
       is_area = last.copy.is_area;
-      holds = subst (λ (s : Shape). Holds IsRecordText (cell_at (cells_in wakes.mounted) (record_block s last.area)) last.value) (sym mounted_shape)
-          (subst (λ (c : Cell). Holds IsRecordText c last.value) (sym (mounts.same_copies last.area)) last.copy.holds);
+      holds = subst (λ (s : Shape). Holds IsRecordText (cell_at (cells_in wakes.mounted) (record_block s last.area)) last.value) (sym wakes.mounts.same_shape)
+          (subst (λ (c : Cell). Holds IsRecordText c last.value) (sym (mounted.same_copies last.area)) last.copy.holds);
     };
-    lives = subst (λ (s : Shape). cell_at (cells_in new) (record_block s last.area) ≢ Dead) (sym mounted_shape) last.lives;
+    lives = subst (λ (s : Shape). cell_at (cells_in new) (record_block s last.area) ≢ Dead) (sym wakes.mounts.same_shape) last.lives;
   }
 
   module _ (P : ℕ → Type 0) (holds : HoldsOfCopies P old) (why : P 0 ⊎ KeepsACopy old new) where
@@ -173,14 +174,14 @@ module _ (old new : Shown) (was now : Noted) (told : Waking) (wakes : WakesSide 
 
     -- what held of all copies holds still
     pub woke_copies : HoldsOfCopies P new
-    woke_copies = generation_copies P wakes.mounted new woke_shape (kept_copies P old wakes.mounted mounts holds) mounted_known wakes.notes.value told.record wakes.notes.cause woke_why
+    woke_copies = generation_copies P wakes.mounted new wakes.notes.leaves.same_shape (kept_copies P old wakes.mounted mounted holds) mounted_known wakes.notes.value told.record wakes.notes.cause woke_why
 
     -- and of what is noted, where the record was read
     pub woke_has : told.record ≡ records.Good → P now.most
     woke_has read =
         let cause : GenerationCause wakes.mounted new wakes.notes.value records.Good = subst (GenerationCause wakes.mounted new wakes.notes.value) read wakes.notes.cause in
         let most : now.most ≡ wakes.notes.value.generation = ap (λ (n : Noted). n.most) (wakes.notes.now_is ∙ ap (after_reading was wakes.notes.value) read) in
-        subst P (sym most) (generation_has P wakes.mounted new woke_shape (kept_copies P old wakes.mounted mounts holds) mounted_known wakes.notes.value cause woke_why)
+        subst P (sym most) (generation_has P wakes.mounted new wakes.notes.leaves.same_shape (kept_copies P old wakes.mounted mounted holds) mounted_known wakes.notes.value cause woke_why)
 
   -- a record that was read is exact, and seen
   pub woke_exact : told.record ≡ records.Good → HoldsOfCopies (λ number. number ≡ now.most) new
@@ -253,7 +254,7 @@ module _ (old new : Shown) (was now : Noted) (above : ℕ) (known : IsKnown old)
           (subst (λ (n : Noted). HoldsOfCopies (λ number. number ≡ n.most) new) (sym p.0.now_is) (subst (HoldsOfCopies (λ number. number ≡ was.most)) (sym p.0.same) exact), omega (arith, less, same))
       go false e p = raised_new raises (ltb-false above was.most e)
 
-module _ (old new : Shown) (was now : Noted) (above : ℕ) (known : IsKnown old) (same_shape : new.shape ≡ old.shape) where
+module _ (old new : Shown) (was now : Noted) (above : ℕ) (known : IsKnown old) where
   -- what is noted then is true, where it was
   pub raised_noted : (out : RecordOut) → Raises old new was now above out → HoldsOfCopies (λ number. number ≤ was.most) old → HoldsOfCopies (λ number. number ≤ now.most) new
   raised_noted out raises noted = go (nat_lt above was.most) refl raises
@@ -268,11 +269,11 @@ module _ (old new : Shown) (was now : Noted) (above : ℕ) (known : IsKnown old)
       with_most e has = subst (λ (m : ℕ). HoldsOfCopies (λ number. number ≤ m) new) (sym e) has
 
       wrote_so : (out : RecordOut) → was.most ≤ above → WritesNumber old new was now (above + 1) out → HoldsOfCopies (λ number. number ≤ now.most) new
-      wrote_so records.Good less w = with_most (ap (λ (n : Noted). n.most) w.now_is) (lead_copies (λ number. number ≤ above + 1) old new same_shape (fewer less) known (numbered was (above + 1)) records.Good w.cause (omega arith))
+      wrote_so records.Good less w = with_most (ap (λ (n : Noted). n.most) w.now_is) (lead_copies (λ number. number ≤ above + 1) old new w.leaves.same_shape (fewer less) known (numbered was (above + 1)) records.Good w.cause (omega arith))
       wrote_so records.Lost less w = lost_copies (λ number. number ≤ now.most) new (w.cause.lost known)
-      wrote_so records.Cut less w = with_most (ap (λ (n : Noted). n.most) w.now_is) (lead_copies (λ number. number ≤ above + 1) old new same_shape (fewer less) known (numbered was (above + 1)) records.Cut w.cause (omega arith))
-      wrote_so records.Off less w = with_most (ap (λ (n : Noted). n.most) w.now_is) (lead_copies (λ number. number ≤ above + 1) old new same_shape (fewer less) known (numbered was (above + 1)) records.Off w.cause (omega arith))
-      wrote_so records.Fault less w = with_most (ap (λ (n : Noted). n.most) w.now_is) (lead_copies (λ number. number ≤ above + 1) old new same_shape (fewer less) known (numbered was (above + 1)) records.Fault w.cause (omega arith))
+      wrote_so records.Cut less w = with_most (ap (λ (n : Noted). n.most) w.now_is) (lead_copies (λ number. number ≤ above + 1) old new w.leaves.same_shape (fewer less) known (numbered was (above + 1)) records.Cut w.cause (omega arith))
+      wrote_so records.Off less w = with_most (ap (λ (n : Noted). n.most) w.now_is) (lead_copies (λ number. number ≤ above + 1) old new w.leaves.same_shape (fewer less) known (numbered was (above + 1)) records.Off w.cause (omega arith))
+      wrote_so records.Fault less w = with_most (ap (λ (n : Noted). n.most) w.now_is) (lead_copies (λ number. number ≤ above + 1) old new w.leaves.same_shape (fewer less) known (numbered was (above + 1)) records.Fault w.cause (omega arith))
 
       inner : (b : Bool) → was.most ≤ above → MatchBool b (WritesNumber old new was now (above + 1) out) (WritesNoNumber old new was now × (out ≡ records.Lost)) → HoldsOfCopies (λ number. number ≤ now.most) new
       inner true less wrote = wrote_so out less wrote

@@ -1,5 +1,5 @@
 -- A sector that was written good is kept, and stays so over all runs.
-use Rattle.std.specs.Prelude.{◌≡◌, ◌⊎◌, ℕ, zero, suc, ◌+◌, ◌*◌, ◌-◌, ◌≤◌, not, MatchBool, if◌then◌else◌, Bool, true, false, List, length, take, drop}
+use Rattle.std.specs.Prelude.{◌≡◌, ℕ, zero, suc, ◌+◌, ◌*◌, ◌-◌, ◌≤◌, not, MatchBool, if◌then◌else◌, Bool, true, false, List, length, take, drop}
 use Rattle.std.proofs.Common.{refl, sym, ◌∙◌, inl, inr, subst, arith}
 use Rattle.std.proofs.lemmas.Bool.{false≢true}
 use Rattle.model_geometry.specs.Geometry.{Shape}
@@ -14,11 +14,13 @@ use Rattle.model_cache.specs.Falling.{LiesIn}
 use Rattle.model_mirror.specs.Shown.{MirrorShown}
 use Rattle.model_mirror.specs.Writes.{WritesWithSides, MirrorWriteCause}
 use Rattle.model_mirror.proofs.WriteSteps.{lies_in_range}
-use Rattle.model_mirror_laws.specs.Sides.{side_of, side_a, side_b}
+use Rattle.model_mirror.specs.Sides.{side_of, side_a, side_b}
+use Rattle.model_mirror.specs.Standing.{MayBe}
 use Rattle.model_mirror_laws.specs.Kept.{AreSides}
 use Rattle.model_mirror_laws.specs.Ahead.{IsAhead, KnowsRecords}
-use Rattle.model_mirror_laws.specs.Bytes.{MayBe, ComesSo, AllHave, IsKept, SidesAge, BeginsAgain}
-use Rattle.model_mirror_laws.specs.Runs.{StepOfRuns, StepsOfRuns, PowersOn, ReadsSome, WritesOthers, Resyncs, RefusesFormat, RunsAnew}
+use Rattle.model_mirror_laws.specs.Bytes.{ComesSo, AllHave, IsKept, SidesAge, IsReopened, BeginsAgain}
+use Rattle.model_mirror_laws.specs.Runs.{StepOfRuns, StepsOfRuns}
+use Rattle.model_mirror_laws.proofs.Soundness.{IsSide, side_left, lead_is, other_is, both_are, power_sides, read_sides, write_sides, format_sides, resync_sides}
 use Rattle.model_mirror_laws.proofs.MirrorRecords.{writes_led}
 use Rattle.model_mirror_laws.proofs.Knowing.{on_ahead, knows_lead, power_knows, read_knows, write_knows, resync_knows, format_knows, begins_knows}
 use Rattle.model_mirror_laws.proofs.Comes.{power_keeps_sector, begins_again}
@@ -27,7 +29,7 @@ use Rattle.model_mirror_laws.proofs.ReadStays.{read_keeps}
 use Rattle.model_mirror_laws.proofs.Aging.{ages_know, ages_keep}
 
 -- A sector of a good write.
-module _ (shape : Shape) (old new : MirrorShown) (sides : AreSides shape old) (sides' : AreSides shape new) (lba n : ℕ) (payload : List ℕ) (whole : length payload ≡ 2048 * n) (at : ℕ) (from : lba ≤ at) (within : at + 1 ≤ lba + n) where
+module _ (shape : Shape) (old new : MirrorShown) (sides : AreSides shape old) (lba n : ℕ) (payload : List ℕ) (whole : length payload ≡ 2048 * n) (at : ℕ) (from : lba ≤ at) (within : at + 1 ≤ lba + n) where
   abbrev written : List ℕ
   written = take 2048 (drop (2048 * (at - lba)) payload)
 
@@ -42,8 +44,8 @@ module _ (shape : Shape) (old new : MirrorShown) (sides : AreSides shape old) (s
   write_begins cause comes knows s stands = go old.on refl cause
     where
       ahead : old.on ≡ true → WritesWithSides old new lba n writes.Good → IsAhead new.lead new.other
-      ahead on (inl led) = kept_ahead old new (writes_led lba n shape old new sides sides' writes.Good led.1) (on_ahead old knows on)
-      ahead on (inr (inl e)) = elsewhere_ahead lba n payload whole shape old new sides sides' knows on writes.Good e
+      ahead on (inl led) = kept_ahead old new (writes_led lba n shape old new sides writes.Good led.1) (on_ahead old knows on)
+      ahead on (inr (inl e)) = elsewhere_ahead lba n payload whole shape old new sides knows on writes.Good e
       ahead on (inr (inr stop)) = absurd (false≢true stop.stopped)
 
       go : (b : Bool) → old.on ≡ b → MatchBool b (WritesWithSides old new lba n writes.Good) ((writes.Good ≡ writes.Off) × (new ≡ old)) → IsKept at written new
@@ -79,25 +81,67 @@ begins_know turned old new begins knows =
     b_known true same = same ∙ was.0
     b_known false same = same ∙ was.1
 
-module _ (shape : Shape) (at : ℕ) (bytes : List ℕ) where
-  one_step : (old new : MirrorShown) → StepOfRuns shape old new at → KnowsRecords old → IsKept at bytes old → KnowsRecords new × IsKept at bytes new
-  one_step old new s knows kept = go s.step
-    where
-      go : PowersOn shape old new ⊎ ReadsSome shape old new ⊎ WritesOthers shape old new at ⊎ Resyncs shape old new ⊎ RefusesFormat shape old new ⊎ SidesAge old new ⊎ RunsAnew shape old new → KnowsRecords new × IsKept at bytes new
-      go (inl p) = (
-        power_knows shape old new p.out p.cause s.before s.after p.in_shape (knows_lead old knows),
-        power_keeps_sector shape old new s.before s.after p.out p.cause p.in_shape p.copies p.so knows at bytes kept,
-      )
-      go (inr (inl r)) = (read_knows shape old new s.before s.after knows r.lba r.n r.out r.cause, read_keeps r.lba r.n at bytes r.into shape old new s.before s.after r.out r.cause r.so knows kept)
-      go (inr (inr (inl w))) = (
-        write_knows shape old new s.before s.after knows w.lba w.n w.out w.cause,
-        write_keeps w.lba w.n w.payload w.whole at bytes w.apart shape old new s.before s.after w.out w.cause w.so knows kept,
-      )
-      go (inr (inr (inr (inl r)))) = (resync_knows shape old new s.before s.after knows r.out r.cause, resync_keeps at bytes shape old new s.before knows kept r.out r.cause r.so)
-      go (inr (inr (inr (inr (inl f))))) = (format_knows shape old new s.before s.after knows f.out f.cause, format_keeps at bytes shape old new s.before s.after f.out f.refused f.cause f.so knows kept)
-      go (inr (inr (inr (inr (inr (inl a)))))) = (ages_know old new a knows, ages_keep at bytes old new a kept)
-      go (inr (inr (inr (inr (inr (inr b)))))) = (begins_know b.turned old new b.begins knows, begins_again b.turned old new b.begins at bytes kept)
+-- the geometry of both sides stays, and what they show is sound, by their names or by their roles
+ages_sides : (shape : Shape) (old new : MirrorShown) → SidesAge old new → AreSides shape old → AreSides shape new
+ages_sides shape old new ages sides = both_are shape new (side_left shape old.lead new.lead ages.lead.leaves (lead_is shape old sides)) (side_left shape old.other new.other ages.other.leaves (other_is shape old sides))
 
-  pub all_steps : (old new : MirrorShown) (steps : ℕ) → StepsOfRuns shape at old new steps → KnowsRecords old → IsKept at bytes old → KnowsRecords new × IsKept at bytes new
-  all_steps old new zero same knows kept = (subst KnowsRecords (sym same) knows, subst (IsKept at bytes) (sym same) kept)
-  all_steps old new (suc k) (mid, steps, last) knows kept = let so_far = all_steps old mid k steps knows kept in one_step mid new last so_far.0 so_far.1
+begins_sides : (shape : Shape) (turned : Bool) (old new : MirrorShown) → BeginsAgain turned old new → AreSides shape old → AreSides shape new
+begins_sides shape turned old new begins sides =
+    let both = known_by (IsSide shape) new.lead_is_a new.lead new.other (a_side turned begins.a) (b_side turned begins.b) in
+    both_are shape new both.0 both.1
+  where
+    was : IsSide shape (side_a old) × IsSide shape (side_b old)
+    was = by_known (IsSide shape) old.lead_is_a old.lead old.other (lead_is shape old sides) (other_is shape old sides)
+
+    a_side : (turned : Bool) → IsReopened (side_of (not turned) old) (side_a new) → IsSide shape (side_a new)
+    a_side true opened = side_left shape (side_b old) (side_a new) opened.leaves was.1
+    a_side false opened = side_left shape (side_a old) (side_a new) opened.leaves was.0
+
+    b_side : (turned : Bool) → IsReopened (side_of turned old) (side_b new) → IsSide shape (side_b new)
+    b_side true opened = side_left shape (side_a old) (side_b new) opened.leaves was.0
+    b_side false opened = side_left shape (side_b old) (side_b new) opened.leaves was.1
+
+module _ (shape : Shape) (at : ℕ) (bytes : List ℕ) where
+  -- what every step keeps
+  abbrev Kept : MirrorShown → Type 0
+  Kept shown = AreSides shape shown × KnowsRecords shown × IsKept at bytes shown
+
+  one_step : (old new : MirrorShown) → StepOfRuns old new at → Kept old → Kept new
+  one_step old new step (sides, knows, kept) = go step
+    where
+      go : StepOfRuns old new at → Kept new
+      go (inl p) = (
+        power_sides shape old new sides p.out p.cause,
+        power_knows old new p.out p.cause (knows_lead old knows),
+        power_keeps_sector old new p.out p.cause p.copies p.so knows at bytes kept,
+      )
+      go (inr (inl r)) = (
+        read_sides shape r.lba r.n old new sides r.out r.cause,
+        read_knows old new knows shape sides r.lba r.n r.out r.cause,
+        read_keeps r.lba r.n at bytes r.into shape old new sides r.out r.cause r.so knows kept,
+      )
+      go (inr (inr (inl w))) = (
+        write_sides shape w.lba w.n old new sides w.out w.cause,
+        write_knows old new knows shape sides w.lba w.n w.out w.cause,
+        write_keeps w.lba w.n w.payload w.whole at bytes w.apart shape old new sides w.out w.cause w.so knows kept,
+      )
+      go (inr (inr (inr (inl r)))) = (
+        resync_sides shape old new sides r.out r.cause,
+        resync_knows old new knows shape sides r.out r.cause,
+        resync_keeps at bytes shape old new sides knows kept r.out r.cause r.so,
+      )
+      go (inr (inr (inr (inr (inl f))))) = (
+        format_sides shape old new sides f.out f.cause,
+        format_knows old new knows f.out f.cause,
+        format_keeps at bytes old new f.out f.refused f.cause f.so knows kept,
+      )
+      go (inr (inr (inr (inr (inr (inl a)))))) = (ages_sides shape old new a sides, ages_know old new a knows, ages_keep at bytes old new a kept)
+      go (inr (inr (inr (inr (inr (inr b)))))) = (
+        begins_sides shape b.turned old new b.begins sides,
+        begins_know b.turned old new b.begins knows,
+        begins_again b.turned old new b.begins at bytes kept,
+      )
+
+  pub all_steps : (old new : MirrorShown) (steps : ℕ) → StepsOfRuns at old new steps → Kept old → Kept new
+  all_steps old new zero same kept = subst Kept (sym same) kept
+  all_steps old new (suc k) (mid, steps, last) kept = one_step mid new last (all_steps old mid k steps kept)

@@ -18,9 +18,10 @@ use Rattle.model_mirror.specs.Table.{is_apart, some_apart}
 use Rattle.model_mirror.specs.Shown.{MirrorShown, stands_in, may_lead}
 use Rattle.model_mirror.specs.Reads.{LeadReads, AsksOther, EndsPart, MirrorReadsPart, MirrorReadsParts, EndsMirrorRead, ReadsLed, ReadsElsewhere, ReadStopped, ReadsWithSides, MirrorReadCause, up_after_read, read_is_stopped}
 use Rattle.model_mirror.proofs.Handing.{takes_the_lead}
+use Rattle.model_mirror.specs.Standing.{MayBe}
 use Rattle.model_mirror_laws.specs.Kept.{AreSides, KeepsRecords}
 use Rattle.model_mirror_laws.specs.Ahead.{IsAhead, KnowsRecords}
-use Rattle.model_mirror_laws.specs.Bytes.{MayBe, ComesSo, HasSector, AllHave, HoldsSector, IsKept}
+use Rattle.model_mirror_laws.specs.Bytes.{ComesSo, HasSector, AllHave, HoldsSector, IsKept}
 use Rattle.model_mirror_laws.proofs.MirrorRecords.{reads_led_stays, old_valid, read_around}
 use Rattle.model_mirror_laws.proofs.Knowing.{and_left, and_right, on_ahead, numbers_ahead, knows_lead, kept_lead, kept_leads, taken_knows}
 use Rattle.model_mirror_laws.proofs.Staying.{HoldsWith, kept_ahead, lead_keeps, by_on, not_taken_rest}
@@ -163,10 +164,10 @@ module _ (lba n : ℕ) where
     read_all (Off discs) t reads.Off each step = subst (AllHave at bytes) step each
     read_all (Off discs) t reads.Fault each step = absurd step
 
-    module _ (shape : Shape) (old new : MirrorShown) (sides : AreSides shape old) (sides' : AreSides shape new) (knows : KnowsRecords old) (on : old.on ≡ true) where
+    module _ (shape : Shape) (old new : MirrorShown) (sides : AreSides shape old) (knows : KnowsRecords old) (on : old.on ≡ true) where
       elsewhere_ahead : (out : ReadOut) → ReadsElsewhere old new lba n out → IsAhead new.lead new.other
       elsewhere_ahead out e =
-          let around = read_around lba n shape old new sides sides' out e in
+          let around = read_around lba n shape old new sides out e in
           let leads = taken_knows e.mid e.late e.takes (kept_lead old e.mid around.0 (knows_lead old knows)) (kept_leads old e.mid around.0 (knows.leads on)) in
           kept_ahead e.late new around.1 (numbers_ahead e.late leads.0.noted leads.1)
 
@@ -174,11 +175,11 @@ module _ (lba n : ℕ) where
           → HoldsSector at bytes new.other ⊎ IsAhead new.lead new.other
       read_stopped (Off discs) stands each after out step stop = absurd (off_stops after discs into out stop.stopped step)
       read_stopped (On disc) stands each after out step stop =
-          not_taken_rest at bytes stop.mid new (sides'.other_shape ∙ sym (before.other.same_shape ∙ sides.other_shape)) (kept_ahead old stop.mid before (on_ahead old knows on)) stop.takes
+          not_taken_rest at bytes stop.mid new (kept_ahead old stop.mid before (on_ahead old knows on)) stop.takes
           (before.other.as_known ∙ knows.other_known) held
         where
           before : KeepsRecords old stop.mid
-          before = (reads_led_stays lba n old stop.mid (old_valid lba n shape old new sides sides') out stop.led).keeps
+          before = (reads_led_stays lba n old stop.mid (old_valid lba n shape old new sides) out stop.led).keeps
 
           held : may_lead stop.mid ≡ true → HoldsWith at bytes stop.mid
           held may =
@@ -198,20 +199,20 @@ module _ (lba n : ℕ) where
 
       read_rest : (s : Standing) → MayBe old s → AllHave at bytes s → (after : Standing → Type 0) (out : ReadOut) → ReadStep after s lba n into out → ReadsWithSides old new lba n out
           → HoldsSector at bytes new.other ⊎ IsAhead new.lead new.other
-      read_rest s stands each after out step (inl led) = inr (kept_ahead old new (reads_led_stays lba n old new (old_valid lba n shape old new sides sides') out led.1).keeps (on_ahead old knows on))
+      read_rest s stands each after out step (inl led) = inr (kept_ahead old new (reads_led_stays lba n old new (old_valid lba n shape old new sides) out led.1).keeps (on_ahead old knows on))
       read_rest s stands each after out step (inr (inl e)) = inr (elsewhere_ahead out e)
       read_rest s stands each after out step (inr (inr stop)) = read_stopped s stands each after out step stop
 
-    pub read_keeps : (shape : Shape) (old new : MirrorShown) → AreSides shape old → AreSides shape new → (out : ReadOut) → MirrorReadCause old new lba n out
+    pub read_keeps : (shape : Shape) (old new : MirrorShown) → AreSides shape old → (out : ReadOut) → MirrorReadCause old new lba n out
         → ComesSo old new (λ s t. ReadStep (λ x. x ≡ t) s lba n into out) → KnowsRecords old → IsKept at bytes old → IsKept at bytes new
-    read_keeps shape old new sides sides' out cause comes knows kept = by_on at bytes shape old new sides knows kept _ _ go old.on refl cause
+    read_keeps shape old new sides out cause comes knows kept = by_on at bytes old new kept _ _ go old.on refl cause
       where
         go : ReadsWithSides old new lba n out → old.on ≡ true → IsKept at bytes new
         go with_sides on =
             let shows = kept.1.shows on in
             let after = comes shows.standing shows.stands in
             lead_keeps at bytes new after.0 after.1 (read_all shows.standing after.0 out shows.each after.2)
-            (read_rest shape old new sides sides' knows on shows.standing shows.stands shows.each (λ x. x ≡ after.0) out after.2 with_sides)
+            (read_rest shape old new sides knows on shows.standing shows.stands shows.each (λ x. x ≡ after.0) out after.2 with_sides)
 
 none_of : (at : ℕ) → sectors_of [] at 1 ≡ []
 unfolding sectors_of

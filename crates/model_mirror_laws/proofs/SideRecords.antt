@@ -36,6 +36,7 @@ use Rattle.model_drive.proofs.Kept.{read_kept, write_kept, format_kept, power_ke
 use Rattle.model_drive.proofs.WriteTurns.{inside_count}
 use Rattle.model_cache.specs.Chains.{ReadsDisc}
 use Rattle.model_mirror.specs.Writes.{WritesSide}
+use Rattle.model_mirror.specs.Whole.{FormatsSide}
 use Rattle.model_mirror_laws.specs.Kept.{KeepsRecord}
 
 pub record_no_list : (shape : Shape) (area : ℕ) → ¬ IsListBlock shape (record_block shape area)
@@ -144,7 +145,7 @@ module _ (old new : Shown) (same_shape : new.shape ≡ old.shape) where
   format_copies formats.Off cause = (record_same old new cause.nothing).same_copies
   format_copies formats.Fault cause = only_formatted cause.only
 
-  pub format_keeps : (out : FormatOut) → FormatCause old new (kinds.Full true) out → KeepsRecord old new
+  format_keeps : (out : FormatOut) → FormatCause old new (kinds.Full true) out → KeepsRecord old new
   format_keeps out cause = kept (format_kept old new (kinds.Full true) out cause) (format_copies out cause)
 
   -- a mount changes lists alone
@@ -157,9 +158,12 @@ module _ (old new : Shown) (same_shape : new.shape ≡ old.shape) where
   pub power_keeps : (out : PowerOut) → PowerCause old new out → KeepsRecord old new
   power_keeps out cause = kept (power_kept old new out cause) (power_copies out cause)
 
--- a side was read, or written
+-- a side was read, written, or formatted
 pub reads_side : (old new : Shown) (lba n : ℕ) (out : ReadOut) → HasValid old → ReadsDisc old new lba n out → KeepsRecord old new
 reads_side old new lba n out valid read = read_keeps old new read.leaves.same_shape valid lba n out read.cause
 
 pub writes_side : (old new : Shown) (lba n : ℕ) (out : WriteOut) → HasValid old → WritesSide old new lba n out → KeepsRecord old new
 writes_side old new lba n out valid wrote = write_keeps old new wrote.leaves.same_shape valid lba n out wrote.wrote
+
+pub formats_side : (old new : Shown) (out : FormatOut) → FormatsSide old new out → KeepsRecord old new
+formats_side old new out f = format_keeps old new f.leaves.same_shape out f.formatted

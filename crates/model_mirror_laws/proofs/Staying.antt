@@ -13,7 +13,7 @@ use Rattle.model_drive.specs.Shown.{Shown, StandsFor}
 use Rattle.model_mirror.specs.declared.Resync.{Resync}
 use Rattle.model_mirror.specs.declared.Resync.TheVariants as resyncs
 use Rattle.model_mirror.specs.Shown.{MirrorShown}
-use Rattle.model_mirror.specs.Standing.{StandsSomehow}
+use Rattle.model_mirror.specs.Standing.{StandsSomehow, MayBe}
 use Rattle.model_mirror.specs.Steps.{ResyncStep}
 use Rattle.model_mirror.specs.Whole.{MirrorFormatCause, ResyncCause}
 use Rattle.model_lists.specs.Records.{LeadRecord}
@@ -38,10 +38,10 @@ use Rattle.model_mirror.specs.Taking.{IsTaken, IsNotTaken, CannotTake}
 use Rattle.model_mirror.specs.Writes.{WritesLed, WritesElsewhere, WriteStopped, WritesWithSides, MirrorWriteCause, write_is_stopped}
 use Rattle.model_mirror.proofs.Handing.{takes_the_lead}
 use Rattle.model_mirror.proofs.WriteSteps.{lies_in_range}
-use Rattle.model_mirror_laws.specs.Sides.{side_of}
+use Rattle.model_mirror.specs.Sides.{side_of}
 use Rattle.model_mirror_laws.specs.Kept.{AreSides, KeepsRecords}
 use Rattle.model_mirror_laws.specs.Ahead.{HoldsOfCopies, IsAhead, KnowsRecords, SideIsAhead}
-use Rattle.model_mirror_laws.specs.Bytes.{MayBe, ComesSo, HasSector, AllHave, HoldsSector, IsKept}
+use Rattle.model_mirror_laws.specs.Bytes.{ComesSo, HasSector, AllHave, HoldsSector, IsKept}
 use Rattle.model_mirror_laws.proofs.Numbers.{kept_copies, lost_copies}
 use Rattle.model_mirror_laws.proofs.MirrorRecords.{resync_leaves, format_leaves, lead_writes, writes_led, old_valid, write_around}
 use Rattle.model_mirror_laws.proofs.Knowing.{on_ahead, numbers_ahead, knows_lead, kept_lead, kept_leads, taken_knows}
@@ -105,14 +105,15 @@ module _ (at : ℕ) (bytes : List ℕ) where
   resync_all (Off discs) t resyncs.Off each step = subst (AllHave at bytes) step each
   resync_all (Off discs) t resyncs.Fault each step = absurd step
 
-  module _ (shape : Shape) (old new : MirrorShown) (sides : AreSides shape old) (knows : KnowsRecords old) (kept : IsKept at bytes old) where
+  module _ (old new : MirrorShown) (kept : IsKept at bytes old) where
     -- a mirror that is off does nothing
     pub by_on : (X Y : Type 0) → (X → old.on ≡ true → IsKept at bytes new) → (b : Bool) → old.on ≡ b → MatchBool b X (Y × (new ≡ old)) → IsKept at bytes new
     by_on X Y each true e cause = each cause e
     by_on X Y each false e p = subst (IsKept at bytes) (sym p.1) kept
 
+  module _ (shape : Shape) (old new : MirrorShown) (sides : AreSides shape old) (knows : KnowsRecords old) (kept : IsKept at bytes old) where
     pub resync_keeps : (out : Resync) → ResyncCause old new out → ComesSo old new (λ s t. ResyncStep (λ x. x ≡ t) s out) → IsKept at bytes new
-    resync_keeps out cause comes = by_on _ _ (λ _ on. go on) old.on refl cause
+    resync_keeps out cause comes = by_on old new kept _ _ (λ _ on. go on) old.on refl cause
       where
         go : old.on ≡ true → IsKept at bytes new
         go on =
@@ -139,16 +140,16 @@ module _ (at : ℕ) (bytes : List ℕ) where
   format_all old new (Off discs) t formats.Off refused each step = subst (AllHave at bytes) step each
   format_all old new (Off discs) t formats.Fault refused each step = absurd step
 
-  pub format_keeps : (shape : Shape) (old new : MirrorShown) → AreSides shape old → AreSides shape new → (out : FormatOut) → IsRefused out → MirrorFormatCause old new out
+  pub format_keeps : (old new : MirrorShown) (out : FormatOut) → IsRefused out → MirrorFormatCause old new out
       → ComesSo old new (λ s t. FormatStep old.lead new.lead (λ x. x ≡ t) s (kinds.Full true) out) → KnowsRecords old → IsKept at bytes old → IsKept at bytes new
-  format_keeps shape old new sides sides' out refused cause comes knows kept = by_on at bytes shape old new sides knows kept _ _ (λ _ on. go on) old.on refl cause
+  format_keeps old new out refused cause comes knows kept = by_on at bytes old new kept _ _ (λ _ on. go on) old.on refl cause
     where
       go : old.on ≡ true → IsKept at bytes new
       go on =
           let shows = kept.1.shows on in
           let after = comes shows.standing shows.stands in
           lead_keeps at bytes new after.0 after.1 (format_all old.lead new.lead shows.standing after.0 out refused shows.each after.2)
-          (inr (kept_ahead old new (format_leaves shape old new sides sides' out cause) (on_ahead old knows on)))
+          (inr (kept_ahead old new (format_leaves old new out cause) (on_ahead old knows on)))
 
 -- what the other side holds, whatever it has buffered
 pub record HoldsWith (at : ℕ) (bytes : List ℕ) (mid : MirrorShown) : Type 0 where
@@ -167,7 +168,7 @@ stopped_with old new value stop buffer cause = record {
 }
 
 -- The other side did not take the lead: it is behind still, or it holds what it held.
-module _ (at : ℕ) (bytes : List ℕ) (mid new : MirrorShown) (shape : new.other.shape ≡ mid.other.shape) (ahead : IsAhead mid.lead mid.other) where
+module _ (at : ℕ) (bytes : List ℕ) (mid new : MirrorShown) (ahead : IsAhead mid.lead mid.other) where
   abbrev Rest : MirrorShown → Type 0
   Rest late = HoldsSector at bytes late.other ⊎ IsAhead late.lead late.other
 
@@ -209,7 +210,7 @@ module _ (at : ℕ) (bytes : List ℕ) (mid new : MirrorShown) (shape : new.othe
 
           inner : (b : Bool) → MatchBool b (WritesNumber mid.other taken.late.other mid.who.other taken.late.who.other (mid.who.lead.most + 1) c.told)
               (WritesNoNumber mid.other taken.late.other mid.who.other taken.late.who.other × (c.told ≡ records.Lost)) → Rest taken.late
-          inner true wrote = wrote_rest taken.late (numbered mid.who.other (mid.who.lead.most + 1)) c.told known lead_same (sym (ap (λ (s : Shown). s.shape) at_other) ∙ shape) (held may) c.not_good wrote.cause
+          inner true wrote = wrote_rest taken.late (numbered mid.who.other (mid.who.lead.most + 1)) c.told known lead_same wrote.leaves.same_shape (held may) c.not_good wrote.cause
           inner false p = same_rest taken.late lead_same p.0.same
 
           raised : (b : Bool) → MatchBool b (WritesNoNumber mid.other taken.late.other mid.who.other taken.late.who.other × (c.told ≡ records.Good))
@@ -300,7 +301,7 @@ module _ (lba n : ℕ) (payload : List ℕ) (whole : length payload ≡ 2048 * n
     write_all shown (Off discs) t writes.Fault lies each step = absurd step
 
   -- The records after a write: the lead is ahead, or the other side holds what it held.
-  module _ (shape : Shape) (old new : MirrorShown) (sides : AreSides shape old) (sides' : AreSides shape new) (knows : KnowsRecords old) (on : old.on ≡ true) where
+  module _ (shape : Shape) (old new : MirrorShown) (sides : AreSides shape old) (knows : KnowsRecords old) (on : old.on ≡ true) where
     -- the other side took the lead in between
     taken_ahead : (mid late : MirrorShown) → KeepsRecords old mid → IsTaken mid late → KeepsRecords late new → IsAhead new.lead new.other
     taken_ahead mid late before taken after =
@@ -308,7 +309,7 @@ module _ (lba n : ℕ) (payload : List ℕ) (whole : length payload ≡ 2048 * n
         kept_ahead late new after (numbers_ahead late leads.0.noted leads.1)
 
     pub elsewhere_ahead : (out : WriteOut) → WritesElsewhere old new lba n out → IsAhead new.lead new.other
-    elsewhere_ahead out e = let around = write_around lba n shape old new sides sides' out e in taken_ahead e.mid e.late around.0 e.takes around.1
+    elsewhere_ahead out e = let around = write_around lba n shape old new sides out e in taken_ahead e.mid e.late around.0 e.takes around.1
 
     off_stops : (shown : Shown) (after : Standing → Type 0) (discs : List (List ℕ)) (out : WriteOut) → write_is_stopped out ≡ true → WriteStep shown after (Off discs) lba n payload out → ⊥
     off_stops shown after discs writes.Good e step = step
@@ -326,11 +327,11 @@ module _ (lba n : ℕ) (payload : List ℕ) (whole : length payload ≡ 2048 * n
           → HoldsSector at bytes new.other ⊎ IsAhead new.lead new.other
       write_stopped (Off discs) stands each after out step stop = absurd (off_stops new.lead after discs out stop.stopped step)
       write_stopped (On disc) stands each after out step stop =
-          not_taken_rest at bytes stop.mid new (sides'.other_shape ∙ sym (before.other.same_shape ∙ sides.other_shape)) (kept_ahead old stop.mid before (on_ahead old knows on)) stop.takes
+          not_taken_rest at bytes stop.mid new (kept_ahead old stop.mid before (on_ahead old knows on)) stop.takes
           (before.other.as_known ∙ knows.other_known) held
         where
           before : KeepsRecords old stop.mid
-          before = (lead_writes old stop.mid lba n out (old_valid lba n shape old new sides sides') stop.led).keeps
+          before = (lead_writes old stop.mid lba n out (old_valid lba n shape old new sides) stop.led).keeps
 
           held : may_lead stop.mid ≡ true → HoldsWith at bytes stop.mid
           held may = record {
@@ -342,14 +343,14 @@ module _ (lba n : ℕ) (payload : List ℕ) (whole : length payload ≡ 2048 * n
 
       write_rest : (s : Standing) → MayBe old s → AllHave at bytes s → (after : Standing → Type 0) (out : WriteOut) → WriteStep new.lead after s lba n payload out → WritesWithSides old new lba n out
           → HoldsSector at bytes new.other ⊎ IsAhead new.lead new.other
-      write_rest s stands each after out step (inl led) = inr (kept_ahead old new (writes_led lba n shape old new sides sides' out led.1) (on_ahead old knows on))
+      write_rest s stands each after out step (inl led) = inr (kept_ahead old new (writes_led lba n shape old new sides out led.1) (on_ahead old knows on))
       write_rest s stands each after out step (inr (inl e)) = inr (elsewhere_ahead out e)
       write_rest s stands each after out step (inr (inr stop)) = write_stopped s stands each after out step stop
 
   module _ (at : ℕ) (bytes : List ℕ) (apart : (at + 1 ≤ lba) ⊎ (lba + n ≤ at)) where
-    pub write_keeps : (shape : Shape) (old new : MirrorShown) → AreSides shape old → AreSides shape new → (out : WriteOut) → MirrorWriteCause old new lba n out
+    pub write_keeps : (shape : Shape) (old new : MirrorShown) → AreSides shape old → (out : WriteOut) → MirrorWriteCause old new lba n out
         → ComesSo old new (λ s t. WriteStep new.lead (λ x. x ≡ t) s lba n payload out) → KnowsRecords old → IsKept at bytes old → IsKept at bytes new
-    write_keeps shape old new sides sides' out cause comes knows kept = by_on at bytes shape old new sides knows kept _ _ go old.on refl cause
+    write_keeps shape old new sides out cause comes knows kept = by_on at bytes old new kept _ _ go old.on refl cause
       where
         go : WritesWithSides old new lba n out → old.on ≡ true → IsKept at bytes new
         go with_sides on =
@@ -357,7 +358,7 @@ module _ (lba n : ℕ) (payload : List ℕ) (whole : length payload ≡ 2048 * n
             let after = comes shows.standing shows.stands in
             lead_keeps at bytes new after.0 after.1
             (write_all at bytes apart new.lead shows.standing after.0 out (lies shows.standing shows.stands) shows.each after.2)
-            (write_rest shape old new sides sides' knows on at bytes shows.standing shows.stands shows.each (λ x. x ≡ after.0) out after.2 with_sides)
+            (write_rest shape old new sides knows on at bytes shows.standing shows.stands shows.each (λ x. x ≡ after.0) out after.2 with_sides)
           where
             lies : (s : Standing) → MayBe old s → MayWrite out → (disc : List ℕ) → s ≡ On disc → LiesIn disc lba n payload
             lies s stands may disc is =

@@ -1,15 +1,13 @@
 -- Which side's record of the lead is ahead, by the copies on both discs. (This project's own, as all here.)
 use Rattle.std.specs.Prelude.{◌≡◌, ◌≢◌, ℕ, ◌<◌, ◌≤◌, not, Bool, true, false}
-use Rattle.model_geometry.specs.Geometry.{Shape, record_block}
+use Rattle.model_geometry.specs.Geometry.{record_block}
 use Rattle.model_lists.specs.Records.{LeadRecord, IsRecordText}
 use Rattle.model_medium.specs.Cells.{Dead, cell_at}
 use Rattle.model_copies.specs.Copies.{HasCopy}
 use Rattle.model_drive.specs.Shown.{Shown, IsKnown, cells_in}
-use Rattle.model_mirror.specs.declared.MirrorPowerOut.{MirrorPowerOut}
 use Rattle.model_mirror.specs.Leading.{Noted}
 use Rattle.model_mirror.specs.Shown.{MirrorShown}
-use Rattle.model_mirror.specs.Powers.{MirrorPowerCause}
-use Rattle.model_mirror_laws.specs.Sides.{side_of}
+use Rattle.model_mirror.specs.Sides.{side_a, side_b, side_of}
 
 -- this holds of the number of each copy of the record of a side that can be read
 abbrev pub HoldsOfCopies : (ℕ → Type 0) → Shown → Type 0
@@ -49,18 +47,10 @@ pub record KnowsRecords (shown : MirrorShown) : Type 0 where
   pub noted : IsNoted shown.who.other shown.other
   pub leads : shown.on ≡ true → LeadsByNumber shown
 
--- Both sides have this geometry also while they wake.
-pub record WakesInShape (shape : Shape) (old new : MirrorShown) (out : MirrorPowerOut)
-    (cause : MirrorPowerCause old new out) : Type 0 where
-  pub lead_mounted : cause.wakes.led.mounted.shape ≡ shape
-  pub other_mounted : cause.wakes.followed.mounted.shape ≡ shape
-  pub lead_woke : cause.mid.lead.shape ≡ shape
-  pub other_woke : cause.mid.other.shape ≡ shape
-
--- Each side has a copy of its record that could be read, and is not dead once it woke.
-pub record WakesWithCopies (old new : MirrorShown) (out : MirrorPowerOut) (cause : MirrorPowerCause old new out) : Type 0 where
-  pub lead : KeepsACopy old.lead cause.mid.lead
-  pub other : KeepsACopy old.other cause.mid.other
+-- Each side has a copy of its record that could be read before, and is not dead now.
+pub record CopiesLast (old new : MirrorShown) : Type 0 where
+  pub a : KeepsACopy (side_a old) (side_a new)
+  pub b : KeepsACopy (side_b old) (side_b new)
 
 -- The record of the side of this name is ahead of the other one's.
 abbrev pub SideIsAhead : (on_a : Bool) → MirrorShown → Type 0

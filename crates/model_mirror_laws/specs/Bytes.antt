@@ -4,16 +4,13 @@ use Rattle.std.specs.List.{AllByRecursion}
 use Rattle.model_sectors.specs.Discs.{Standing, candidates, sectors_of}
 use Rattle.model_drive.specs.Shown.{Shown, IsOn, StandsFor, cells_in}
 use Rattle.model_drive.specs.Parts.{KeepsLists, AreSameOrDead}
+use Rattle.model_cache.specs.Chains.{LeavesSound}
 use Rattle.model_mirror.specs.declared.MirrorPowerOut.{MirrorPowerOut}
 use Rattle.model_mirror.specs.Shown.{MirrorShown}
-use Rattle.model_mirror.specs.Standing.{StandsSomehow, MirrorStands}
+use Rattle.model_mirror.specs.Standing.{StandsSomehow, MayBe}
 use Rattle.model_mirror.specs.Powers.{MirrorPowerStep}
-use Rattle.model_mirror_laws.specs.Sides.{side_a, side_b, side_of}
+use Rattle.model_mirror.specs.Sides.{side_a, side_b, side_of}
 use Rattle.model_mirror_laws.specs.Ahead.{SideIsAhead}
-
--- the mirror may stand for this
-abbrev pub MayBe : MirrorShown → Standing → Type 0
-MayBe shown s = MirrorStands shown (StandsFor shown.lead) (StandsFor shown.other) s
 
 -- From each thing that a mirror may stand for before a call, the call comes so to one that it may stand for then.
 abbrev pub ComesSo : (old new : MirrorShown) → (Standing → Standing → Type 0) → Type 0
@@ -60,7 +57,7 @@ module _ (at : ℕ) (bytes : List ℕ) where
 
 -- A side grew older between two calls: some cells have died, or will die or cut the power at a later use, and nothing else changed.
 pub record Ages (old new : Shown) : Type 0 where
-  pub same_shape : new.shape ≡ old.shape
+  pub leaves : LeavesSound old new
   pub as_known : new.medium.world.known ≡ old.medium.world.known
   pub same_power : new.medium.world.power ≡ old.medium.world.power
   pub keeps : KeepsLists old new
@@ -75,7 +72,7 @@ pub record SidesAge (old new : MirrorShown) : Type 0 where
 
 -- A side was opened anew: its geometry is as it was, its power is off, and no cell changed but that some have died.
 pub record IsReopened (old new : Shown) : Type 0 where
-  pub same_shape : new.shape ≡ old.shape
+  pub leaves : LeavesSound old new
   pub as_known : new.medium.world.known ≡ old.medium.world.known
   pub off : ¬ IsOn new
   pub same : AreSameOrDead (cells_in old) (cells_in new)

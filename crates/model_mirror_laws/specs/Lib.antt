@@ -1,4 +1,3 @@
-pub mod Sides
 pub mod Kept
 pub mod Ahead
 pub mod Bytes

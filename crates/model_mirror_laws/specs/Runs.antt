@@ -1,7 +1,6 @@
 -- Runs of a mirror on the same two discs, one after another, in which no disc is made anew, no format is good or stopped, the lead
 -- is not given by hand, and one sector is not written. (This project's own, as all here.)
 use Rattle.std.specs.Prelude.{◌≡◌, ◌⊎◌, ℕ, zero, suc, ◌+◌, ◌*◌, ◌≤◌, Bool, true, List, length}
-use Rattle.model_geometry.specs.Geometry.{Shape}
 use Rattle.model_sectors.specs.declared.ReadOut.{ReadOut}
 use Rattle.model_drive.specs.declared.WriteOut.{WriteOut}
 use Rattle.model_drive.specs.declared.FormatOut.{FormatOut}
@@ -18,8 +17,7 @@ use Rattle.model_mirror.specs.Reads.{MirrorReadCause}
 use Rattle.model_mirror.specs.Writes.{MirrorWriteCause}
 use Rattle.model_mirror.specs.Whole.{MirrorFormatCause, ResyncCause}
 use Rattle.model_mirror.specs.Steps.{ResyncStep}
-use Rattle.model_mirror_laws.specs.Kept.{AreSides}
-use Rattle.model_mirror_laws.specs.Ahead.{WakesInShape, WakesWithCopies}
+use Rattle.model_mirror_laws.specs.Ahead.{CopiesLast}
 use Rattle.model_mirror_laws.specs.Bytes.{ComesSo, PowersSo, SidesAge, BeginsAgain}
 
 -- A format that was refused: it left the disc, or none. One that was good or stopped may leave zeros.
@@ -31,13 +29,12 @@ IsRefused outs.Cut = ⊥
 IsRefused outs.Off = Unit {0}
 IsRefused outs.Fault = ⊥
 
-module _ (shape : Shape) (old new : MirrorShown) where
-  -- the power of both sides went off and on again, while of each record one copy could be read
+module _ (old new : MirrorShown) where
+  -- the power of both sides went off and on again, and of each record a copy that could be read is not dead
   pub record PowersOn : Type 0 where
     pub out : MirrorPowerOut
     pub cause : MirrorPowerCause old new out
-    pub in_shape : WakesInShape shape old new out cause
-    pub copies : WakesWithCopies old new out cause
+    pub copies : CopiesLast old new
     pub so : PowersSo old new out
 
   -- sectors were read
@@ -79,12 +76,10 @@ module _ (shape : Shape) (old new : MirrorShown) where
     pub begins : BeginsAgain turned old new
 
   -- one of these
-  pub record StepOfRuns (at : ℕ) : Type 0 where
-    pub before : AreSides shape old
-    pub after : AreSides shape new
-    pub step : PowersOn ⊎ ReadsSome ⊎ WritesOthers at ⊎ Resyncs ⊎ RefusesFormat ⊎ SidesAge old new ⊎ RunsAnew
+  abbrev pub StepOfRuns : (at : ℕ) → Type 0
+  StepOfRuns at = PowersOn ⊎ ReadsSome ⊎ WritesOthers at ⊎ Resyncs ⊎ RefusesFormat ⊎ SidesAge old new ⊎ RunsAnew
 
 -- n of these, one after another
-abbrev pub StepsOfRuns : Shape → (at : ℕ) → MirrorShown → MirrorShown → ℕ → Type 0
-StepsOfRuns shape at old new zero = new ≡ old
-StepsOfRuns shape at old new (suc k) = (mid : MirrorShown) × StepsOfRuns shape at old mid k × StepOfRuns shape mid new at
+abbrev pub StepsOfRuns : (at : ℕ) → MirrorShown → MirrorShown → ℕ → Type 0
+StepsOfRuns at old new zero = new ≡ old
+StepsOfRuns at old new (suc k) = (mid : MirrorShown) × StepsOfRuns at old mid k × StepOfRuns mid new at

@@ -15,24 +15,23 @@ ghost use Rattle.model_mirror.specs.Whole.{MirrorFormatCause, ResyncCause};
 ghost use Rattle.model_mirror.specs.Powers.{MirrorPowerCause};
 ghost use Rattle.model_mirror_laws.specs.Kept.{AreSides};
 ghost use Rattle.model_mirror_laws.specs.Bytes.{SidesAge};
-ghost use Rattle.model_mirror_laws.specs.Ahead.{KnowsRecords, IsAhead, WakesInShape, WakesWithCopies, SideIsAhead};
+ghost use Rattle.model_mirror_laws.specs.Ahead.{KnowsRecords, IsAhead, CopiesLast, SideIsAhead};
 
 /// What a mirror has noted of its records is true of their copies, from the beginning of a run, in each of its calls but the one that
 /// gives the lead, and between two calls.
 pub fn what_is_noted_of_the_records_is_true()
     ensures begins { (shown : MirrorShown) → IsKnown shown.lead → IsKnown shown.other → shown.on ≡ false
         → shown.who.by_hand ≡ false → shown.who.other.seen ≡ false → KnowsRecords shown }
-    ensures power { (shape : Shape) (old new : MirrorShown) → AreSides shape old → AreSides shape new
-        → (out : MirrorPowerOut) (cause : MirrorPowerCause old new out) → WakesInShape shape old new out cause
-        → KnowsRecords old → KnowsRecords new }
-    ensures read { (shape : Shape) (old new : MirrorShown) → AreSides shape old → AreSides shape new
+    ensures power { (old new : MirrorShown) (out : MirrorPowerOut)
+        → MirrorPowerCause old new out → KnowsRecords old → KnowsRecords new }
+    ensures read { (shape : Shape) (old new : MirrorShown) → AreSides shape old
         → (lba n : ℕ) (out : ReadOut) → MirrorReadCause old new lba n out → KnowsRecords old → KnowsRecords new }
-    ensures write { (shape : Shape) (old new : MirrorShown) → AreSides shape old → AreSides shape new
+    ensures write { (shape : Shape) (old new : MirrorShown) → AreSides shape old
         → (lba n : ℕ) (out : WriteOut) → MirrorWriteCause old new lba n out
         → KnowsRecords old → KnowsRecords new }
-    ensures format { (shape : Shape) (old new : MirrorShown) → AreSides shape old → AreSides shape new
-        → (out : FormatOut) → MirrorFormatCause old new out → KnowsRecords old → KnowsRecords new }
-    ensures resync { (shape : Shape) (old new : MirrorShown) → AreSides shape old → AreSides shape new
+    ensures format { (old new : MirrorShown) (out : FormatOut)
+        → MirrorFormatCause old new out → KnowsRecords old → KnowsRecords new }
+    ensures resync { (shape : Shape) (old new : MirrorShown) → AreSides shape old
         → (out : Resync) → ResyncCause old new out → KnowsRecords old → KnowsRecords new }
     ensures ages { (old new : MirrorShown) → SidesAge old new → KnowsRecords old → KnowsRecords new }
 {}
@@ -45,9 +44,8 @@ pub fn the_lead_is_ahead()
 /// In another power on, also the first one of another run, the side whose record is ahead is ahead still, and no other leads: whatever
 /// the order of the images. Of each record a copy has to last, and the side led before, where who leads is known.
 pub fn the_side_that_is_ahead_leads_again()
-    ensures { (shape : Shape) (old new : MirrorShown) → AreSides shape old → AreSides shape new
-        → (out : MirrorPowerOut) (cause : MirrorPowerCause old new out) → WakesInShape shape old new out cause
-        → WakesWithCopies old new out cause → KnowsRecords old
+    ensures { (old new : MirrorShown) (out : MirrorPowerOut)
+        → MirrorPowerCause old new out → CopiesLast old new → KnowsRecords old
         → (on_a : Bool) → SideIsAhead on_a old → (old.who.known ≡ true → old.lead_is_a ≡ on_a)
         → SideIsAhead on_a new × (new.who.known ≡ true → new.lead_is_a ≡ on_a) }
 {}

@@ -13,7 +13,7 @@ ghost use Rattle.model_mirror.specs.Reads.{MirrorReadCause};
 ghost use Rattle.model_mirror.specs.Writes.{MirrorWriteCause};
 ghost use Rattle.model_mirror.specs.Whole.{MirrorFormatCause, ResyncCause};
 ghost use Rattle.model_mirror.specs.Giving.{GiveLeadCause};
-ghost use Rattle.model_mirror_laws.specs.Sides.{OneFailed};
+ghost use Rattle.model_mirror.specs.Sides.{OneFailed};
 
 /// A call of a mirror that answers that something failed below it has counted it, for one of its sides.
 pub fn a_fault_of_a_mirror_is_counted()

@@ -15,7 +15,7 @@ pub use ahead::{
     the_lead_is_ahead, the_side_that_is_ahead_leads_again, what_is_noted_of_the_records_is_true,
 };
 pub use counted::a_fault_of_a_mirror_is_counted;
-pub use kept::other_calls_leave_the_records;
+pub use kept::{a_call_leaves_both_sides_sound, other_calls_leave_the_records};
 pub use runs::{
     a_kept_sector_comes_again, a_kept_sector_is_shown, a_kept_sector_stays,
     a_sector_is_kept_over_runs, a_written_sector_is_kept,

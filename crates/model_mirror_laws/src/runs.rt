@@ -19,18 +19,18 @@ ghost use Rattle.model_mirror.specs.Reads.{MirrorReadCause};
 ghost use Rattle.model_mirror.specs.Writes.{MirrorWriteCause};
 ghost use Rattle.model_mirror.specs.Shown.{MirrorShown};
 ghost use Rattle.model_mirror.specs.Powers.{MirrorPowerCause};
+ghost use Rattle.model_mirror.specs.Standing.{MayBe};
 ghost use Rattle.model_mirror_laws.specs.Kept.{AreSides};
-ghost use Rattle.model_mirror_laws.specs.Ahead.{KnowsRecords, WakesInShape, WakesWithCopies};
-ghost use Rattle.model_mirror_laws.specs.Bytes.{MayBe, ComesSo, PowersSo, IsKept, SidesAge, BeginsAgain};
+ghost use Rattle.model_mirror_laws.specs.Ahead.{KnowsRecords, CopiesLast};
+ghost use Rattle.model_mirror_laws.specs.Bytes.{ComesSo, PowersSo, IsKept, SidesAge, BeginsAgain};
 ghost use Rattle.model_mirror_laws.specs.Runs.{IsRefused, StepsOfRuns};
 ghost use Rattle.model_sectors.specs.Discs.{Standing};
 
 /// A sector that is kept by a side is kept still after the power of both went off and on again, and where the mirror is on then, it shows
 /// the sector; also in the first power on of another run, in either order of the images. Of each record a copy has to last.
 pub fn a_kept_sector_comes_again()
-    ensures power { (shape : Shape) (old new : MirrorShown) → AreSides shape old → AreSides shape new
-        → (out : MirrorPowerOut) (cause : MirrorPowerCause old new out) → WakesInShape shape old new out cause
-        → WakesWithCopies old new out cause → PowersSo old new out → KnowsRecords old
+    ensures power { (old new : MirrorShown) (out : MirrorPowerOut)
+        → MirrorPowerCause old new out → CopiesLast old new → PowersSo old new out → KnowsRecords old
         → (at : ℕ) (bytes : List ℕ) → IsKept at bytes old → IsKept at bytes new }
     ensures begins { (turned : Bool) (old new : MirrorShown) → BeginsAgain turned old new
         → (at : ℕ) (bytes : List ℕ) → IsKept at bytes old → IsKept at bytes new }
@@ -39,21 +39,20 @@ pub fn a_kept_sector_comes_again()
 /// A read, a resynchronisation, and a write of other sectors leave a sector kept, however they end, and a format where it was refused;
 /// and so does what happens to a side between two calls, where cells die, or a later death or cut is armed.
 pub fn a_kept_sector_stays()
-    ensures read { (shape : Shape) (old new : MirrorShown) → AreSides shape old → AreSides shape new
+    ensures read { (shape : Shape) (old new : MirrorShown) → AreSides shape old
         → (lba n : ℕ) (into : List ℕ) (out : ReadOut) → MirrorReadCause old new lba n out
         → ComesSo old new (λ s t. ReadStep (λ x. x ≡ t) s lba n into out) → KnowsRecords old
         → (at : ℕ) (bytes : List ℕ) → IsKept at bytes old → IsKept at bytes new }
     ensures resync { (shape : Shape) (old new : MirrorShown) → AreSides shape old → (out : Resync)
         → ResyncCause old new out → ComesSo old new (λ s t. ResyncStep (λ x. x ≡ t) s out)
         → KnowsRecords old → (at : ℕ) (bytes : List ℕ) → IsKept at bytes old → IsKept at bytes new }
-    ensures write { (shape : Shape) (old new : MirrorShown) → AreSides shape old → AreSides shape new
+    ensures write { (shape : Shape) (old new : MirrorShown) → AreSides shape old
         → (lba n : ℕ) (payload : List ℕ) → length payload ≡ 2048 * n → (out : WriteOut)
         → MirrorWriteCause old new lba n out
         → ComesSo old new (λ s t. WriteStep new.lead (λ x. x ≡ t) s lba n payload out) → KnowsRecords old
         → (at : ℕ) (bytes : List ℕ) → (at + 1 ≤ lba) ⊎ (lba + n ≤ at)
         → IsKept at bytes old → IsKept at bytes new }
-    ensures format { (shape : Shape) (old new : MirrorShown) → AreSides shape old → AreSides shape new
-        → (out : FormatOut) → IsRefused out → MirrorFormatCause old new out
+    ensures format { (old new : MirrorShown) (out : FormatOut) → IsRefused out → MirrorFormatCause old new out
         → ComesSo old new (λ s t. FormatStep old.lead new.lead (λ x. x ≡ t) s (kinds.Full true) out)
         → KnowsRecords old → (at : ℕ) (bytes : List ℕ) → IsKept at bytes old → IsKept at bytes new }
     ensures ages { (old new : MirrorShown) → SidesAge old new
@@ -70,7 +69,7 @@ pub fn a_kept_sector_is_shown()
 
 /// A sector that was written, where the write was good, is kept with its bytes.
 pub fn a_written_sector_is_kept()
-    ensures { (shape : Shape) (old new : MirrorShown) → AreSides shape old → AreSides shape new
+    ensures { (shape : Shape) (old new : MirrorShown) → AreSides shape old
         → (lba n : ℕ) (payload : List ℕ) → length payload ≡ 2048 * n
         → (at : ℕ) → lba ≤ at → at + 1 ≤ lba + n → MirrorWriteCause old new lba n writes.Good
         → ComesSo old new (λ s t. WriteStep new.lead (λ x. x ≡ t) s lba n payload writes.Good)
@@ -83,6 +82,6 @@ pub fn a_written_sector_is_kept()
 /// often a run begins, and wherever the power of a side is cut in a call, while of each record one copy lasts in each power on.
 pub fn a_sector_is_kept_over_runs()
     ensures { (shape : Shape) (at : ℕ) (bytes : List ℕ) (old new : MirrorShown) (steps : ℕ)
-        → StepsOfRuns shape at old new steps → KnowsRecords old → IsKept at bytes old
-        → KnowsRecords new × IsKept at bytes new }
+        → AreSides shape old → KnowsRecords old → IsKept at bytes old → StepsOfRuns at old new steps
+        → AreSides shape new × KnowsRecords new × IsKept at bytes new }
 {}

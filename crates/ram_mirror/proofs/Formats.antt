@@ -11,7 +11,7 @@ use Rattle.model_drive.specs.Formats.{FormatCause, FormatStep}
 use Rattle.model_drive.specs.FullFormats.{StandsInFormat}
 use Rattle.model_mirror.specs.Shown.{MirrorShown, led_by}
 use Rattle.model_mirror.specs.Standing.{IsFollowed, MirrorStands}
-use Rattle.model_mirror.specs.Whole.{FormatsLead}
+use Rattle.model_mirror.specs.Whole.{FormatsSide, FormatsLead}
 use Rattle.model_mirror.proofs.Somehow.{led_off}
 
 -- a format whose list could not be written leaves the power on
@@ -30,17 +30,17 @@ and_false true = refl
 and_false false = refl
 
 -- The lead could not write a list. Where it has its disc still, nothing else happened; else the other side is down.
-module _ (old mid : MirrorShown) (up : Bool) (counter : ℕ) (capacity : Option ℕ) (led : mid ≡ led_by old mid.lead) (cause : FormatCause old.lead mid.lead (kinds.Full true) (formats.NoUpdate counter))
+module _ (old mid : MirrorShown) (up : Bool) (counter : ℕ) (capacity : Option ℕ) (led : mid ≡ led_by old mid.lead) (formatted : FormatsSide old.lead mid.lead (formats.NoUpdate counter))
     (tells : CapacityRule mid.lead capacity) (up_is : up ≡ (mid.up && is_some capacity)) where
   abbrev after : MirrorShown
   after = record mid { up = up }
 
   pub unlisted_cause : FormatsLead old after (formats.NoUpdate counter)
-  unlisted_cause = record { mid = mid; lead = (cause, led); ends = go capacity tells up_is }
+  unlisted_cause = record { mid = mid; lead = (formatted, led); ends = go capacity tells up_is }
     where
       go : (capacity : Option ℕ) → CapacityRule mid.lead capacity → up ≡ (mid.up && is_some capacity) → (IsFormatted mid.lead × (after ≡ mid)) ⊎ (¬ IsFormatted mid.lead × (after ≡ record mid { up = false }))
       go (Some known) rule is = inl (rule.0.1, ap (λ (b : Bool). record mid { up = b }) (is ∙ and_true mid.up))
-      go None rule is = inr (λ formatted. rule (unlisted_on old.lead mid.lead counter cause, formatted), ap (λ (b : Bool). record mid { up = b }) (is ∙ and_false mid.up))
+      go None rule is = inr (λ is_formatted. rule (unlisted_on old.lead mid.lead counter formatted.formatted, is_formatted), ap (λ (b : Bool). record mid { up = b }) (is ∙ and_false mid.up))
 
 module _ (old new : MirrorShown) (lead lead' other : Standing → Type 0) where
   stands_in : (shape : Shape) (disc : List ℕ) → IsFollowed old other disc → StandsInFormat shape lead' disc → StandsInFormat shape (MirrorStands new lead' other) disc

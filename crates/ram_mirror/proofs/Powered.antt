@@ -120,7 +120,7 @@ module _ (mid new : MirrorShown) (here there : Waking) (lead lead₁ lead' other
 
   pub powered : (out : MirrorPowerOut) → StartsAs lead₁ lead' other₁ other' mid new here there out → (s t : Standing) → lead s → other t → PowersRoles new.lead (MirrorStands new lead' other') lead' other' s t s out
   powered (outs.Ready known) starts s t so to = record {
-    leads = record {
+    leads = (known_is, record {
       mounted = woke.cause.mounted;
       since = since;
       finds = record {
@@ -137,7 +137,7 @@ module _ (mid new : MirrorShown) (here there : Waking) (lead lead₁ lead' other
           },
         );
       };
-    };
+    });
     of_lead = lead_mounted (λ x a. inl (starts.keeps x a)) s so;
     of_other = other_mounted starts.some t to;
   }

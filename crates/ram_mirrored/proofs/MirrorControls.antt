@@ -13,6 +13,7 @@ use Rattle.model_drive.specs.Shown.{Shown, StandsFor, cells_in}
 use Rattle.model_drive.specs.Parts.{AreSameOrDead}
 use Rattle.model_drive.proofs.Dying.{one_dies, same_on, same_candidates}
 use Rattle.model_mirror.specs.Shown.{MirrorShown}
+use Rattle.model_mirror.specs.Sides.{side_a, side_b, side_of}
 use Rattle.ram_medium.specs.Control.{WearRule, with_armed_cut}
 use Rattle.ram_medium.specs.declared.control.FailEnd.{FailEnd}
 use Rattle.ram_medium.specs.declared.control.FailEnd.TheVariants as fails
@@ -23,8 +24,7 @@ use Rattle.ram_report.specs.declared.printing.MirrorEvent.{MirrorEvent}
 use Rattle.ram_machine.specs.Register.{Value}
 use Rattle.ram_machine.proofs.SectorBoth.{one_lost, other_lost}
 use Rattle.ram_pair.specs.Told.{one_cut, fail_told}
-use Rattle.ram_pair.specs.PairStates.{side_a, side_b}
-use Rattle.ram_pair.specs.PairLines.{side_of, with_side, KeepsAll, FailCall, WearCall, CutCall}
+use Rattle.ram_pair.specs.PairLines.{with_side, KeepsAll, FailCall, WearCall, CutCall}
 use Rattle.ram_mirrored.specs.MirrorRegister.{MirrorRegister}
 use Rattle.ram_mirrored.proofs.MirrorSectors.{Held, SideFalls, SidesFall, MatchesMirror, Turned, match_led, match_none}
 use Rattle.ram_mirrored.proofs.MirrorCalls.{by_known}
@@ -109,7 +109,7 @@ module _ (at : ℕ) (old new : MirrorShown) (r : MirrorRegister) (was : MatchesM
         (λ known led both. record { after = r; rule = refl; matches = match_led at new r (known_is ∙ known) led (record { one = held one_lost both.one; other = held other_lost both.other }) })
         (λ known led none. record { after = r; rule = refl; matches = match_none at new r (known_is ∙ known) led (record { off = on_is ∙ none.off; none = none.none; one = both_fall one_lost none.one; other = both_fall other_lost none.other }) })
 
-  -- no image failed, or its count stands at its end
+  -- no image failed
   pub fail_called : (on_a : Bool) (block : ℕ) (told : MirrorEvent) → told ≢ one_cut → FailCall old new on_a block told → Turned at new (λ after. after ≡ r)
   fail_called on_a block told done call =
       let not_failed : call.end ≡ fails.Failed → ⊥ = λ is. done (call.told_is ∙ ap fail_told is) in

@@ -21,6 +21,7 @@ use Rattle.model_sectors.proofs.Pieces.{piece_of_piece}
 use Rattle.model_volume.specs.Covers.{Cover}
 use Rattle.model_volume.specs.Starts.{Found, IsFound, disc_under}
 use Rattle.model_drive.specs.Shown.{Shown, StandsFor}
+use Rattle.model_mirror.specs.Sides.{side_a, side_b}
 use Rattle.model_cache.proofs.Members.{Contains-none, Contains-first, Contains-later, Contains-cases}
 use Rattle.ram_report.specs.declared.printing.Event.TheVariants as events
 use Rattle.ram_report.specs.declared.printing.MirrorEvent.{MirrorEvent}
@@ -32,7 +33,7 @@ use Rattle.ram_machine.proofs.SectorFilled.{filled, filled_under, filled_long, f
 use Rattle.ram_machine.proofs.SectorOpened.{place_fits, value_in, falls_of, filled_sector}
 use Rattle.ram_machine.proofs.SectorBoth.{one_lost, other_lost}
 use Rattle.ram_pair.specs.declared.told.Told.TheVariants as told
-use Rattle.ram_pair.specs.PairStates.{TwoImages, Mirrored, PairState, Unpaired, Paired, side_a, side_b, ShowsOpened, IsFirstPair, IsPressedPair}
+use Rattle.ram_pair.specs.PairStates.{TwoImages, Mirrored, PairState, Unpaired, Paired, ShowsOpened, IsFirstPair, IsPressedPair}
 use Rattle.ram_pair.specs.PairSteps.{PressPair}
 use Rattle.ram_mirrored.specs.MirrorRegister.{MirrorRegister, OnPress, IsMirrorOpened}
 use Rattle.ram_mirrored.proofs.MirrorSectors.{FallTo, SideFalls, SidesFall, MatchesMirror, match_none, both_values, in_first, in_second}

@@ -1,15 +1,15 @@
 -- The power on of a mirror, who leads it, and the register of a sector.
-use Rattle.std.specs.Prelude.{◌≡◌, ℕ, ◌+◌, ◌*◌, ◌<◌, ◌⊎◌, Bool, true, false, not, if◌then◌else◌, MatchBool, Option, None, List, [], ◌∷◌, length}
+use Rattle.std.specs.Prelude.{◌≡◌, ℕ, ◌+◌, ◌*◌, ◌<◌, ◌≤◌, ◌⊎◌, Bool, true, false, not, if◌then◌else◌, nat_lt, MatchBool, Option, None, List, [], ◌∷◌, length}
 use Rattle.std.specs.List.{Contains}
 use Rattle.std.proofs.Common.{arith, refl, sym, ap, ◌∙◌, inl, inr, subst}
-use Rattle.std.proofs.lemmas.Bool.{cases_lt}
+use Rattle.std.proofs.lemmas.Bool.{cases_lt, lt-ltb, le-ltb}
 use Rattle.model_geometry.specs.Geometry.{Shape}
 use Rattle.model_medium.specs.Cells.{Cell}
 use Rattle.model_places.specs.Places.{Lists}
 use Rattle.model_sectors.specs.Discs.{Standing, On, Off, sectors_of, candidates}
 use Rattle.model_sectors.specs.declared.PowerOut.{PowerOut}
 use Rattle.model_sectors.specs.declared.PowerOut.TheVariants as powers
-use Rattle.model_drive.specs.Shown.{Shown, StandsFor, IsFirstUnder, cells_in}
+use Rattle.model_drive.specs.Shown.{Shown, StandsFor, IsFirstUnder, cells_in, capacity}
 use Rattle.model_drive.specs.Power.{PowerStep}
 use Rattle.model_drive.specs.declared.RecordOut.{RecordOut}
 use Rattle.model_drive.specs.declared.RecordOut.TheVariants as records
@@ -19,15 +19,16 @@ use Rattle.model_mirror.specs.declared.MirrorPowerOut.TheVariants as outs
 use Rattle.model_mirror.specs.declared.GiveOut.{GiveOut}
 use Rattle.model_mirror.specs.declared.GiveOut.TheVariants as gives
 use Rattle.model_mirror.specs.Shown.{MirrorShown, turned}
-use Rattle.model_mirror.specs.Standing.{StandsSomehow}
+use Rattle.model_mirror.proofs.WriteSteps.{long_as_counted}
+use Rattle.model_mirror.specs.Standing.{StandsSomehow, MayBe}
 use Rattle.model_mirror.specs.Giving.{is_to_turn, IsNotGiven, Gives, GiveStepOf, leader_as}
 use Rattle.model_mirror.specs.Powers.{FindsMounted, StandsMounted, MirrorPowerStep, LeadPowerStep, once_off, on_or_off, of_lead}
+use Rattle.model_mirror.specs.Sides.{side_a, side_b}
 use Rattle.ram_report.specs.declared.printing.MirrorEvent.{MirrorEvent}
 use Rattle.ram_machine.specs.Register.{Value, Bytes, Lost}
 use Rattle.ram_machine.proofs.SectorValues.{falls_under, has_bytes}
 use Rattle.ram_machine.proofs.SectorBoth.{one_lost, other_lost}
 use Rattle.ram_pair.specs.Told.{power_told, lead_told, give_told}
-use Rattle.ram_pair.specs.PairStates.{side_a, side_b, MayBe}
 use Rattle.ram_pair.specs.PairLines.{PowerCall, LeadCall, GiveCall}
 use Rattle.ram_mirrored.specs.MirrorRegister.{MirrorRegister, settled_at, has_none, emptied, led_on, LeadsAnew, OnPower, OnLead, OnGiven}
 use Rattle.ram_mirrored.proofs.MirrorLeads.{SameKnown, Tells, PowerTells, power_tells}
@@ -131,41 +132,55 @@ module _ (lost : List ℕ) (at : ℕ) where
   fits_led : (s : Standing) (r : MirrorRegister) → Fits lost at s r → Fits lost at s (led_on r)
   fits_led s r was = record { now = was.now; falls = was.falls }
 
-  -- what a mirror finds that is ready
-  abbrev Finds : MirrorShown → MirrorRegister → Type 0
-  Finds new r = ((value : Value) × Contains r.falls value × Held lost at new (led_on (settled_at r value))) ⊎ Held lost at new (led_on (emptied r))
+  -- what a mirror finds that is ready, by whether its disc has the sector
+  abbrev Finds : MirrorShown → MirrorRegister → (has : Bool) → Type 0
+  Finds new r true = (value : Value) × Contains r.falls value × Held lost at new (led_on (settled_at r value))
+  Finds new r false = Held lost at new (led_on (emptied r))
 
-  finds : (new : MirrorShown) (r : MirrorRegister) (s : Standing) → FallTo at (falls_under lost r.falls) (candidates s) → FindsMounted new.lead (MayBe new) s → Finds new r
-  finds new r s fall mounted =
+  as_long : (new : MirrorShown) (disc : List ℕ) (known : ℕ) → known ≡ capacity new.lead → MayBe new (On disc) → length disc ≡ 2048 * known
+  as_long new disc known is may =
+      let long = long_as_counted new.lead disc may.1 in
+      omega (arith, long, is)
+
+  finds : (new : MirrorShown) (r : MirrorRegister) (s : Standing) (known : ℕ) → FallTo at (falls_under lost r.falls) (candidates s) → (known ≡ capacity new.lead) × FindsMounted new.lead (MayBe new) s
+      → Finds new r (nat_lt at known)
+  finds new r s known fall (is, mounted) =
       let disc : List ℕ = mounted.finds.disc in
       let there = first_in mounted.mounted.shape (cells_in mounted.mounted) mounted.finds.lists (candidates s) disc mounted.finds.first in
-      elim (cases_lt (length disc) (2048 * (at + 1))) [
-        | inl past ↦ inr (record { standing = On disc; stands = mounted.finds.found; fits = fits_led (On disc) (emptied r) (found_none lost at disc r past) })
-        | inr inside ↦
+      let long = as_long new disc known is mounted.finds.found in
+      elim (cases_lt at known) [
+        | inl below ↦
+            let inside : 2048 * (at + 1) ≤ length disc = omega (arith, long) in
             let held = has_bytes lost r.falls (sectors_of disc at 1) (fall disc there inside) in
-            inl (held.value, held.among, record { standing = On disc; stands = mounted.finds.found; fits = fits_led (On disc) (settled_at r held.value) (found_some lost at disc r held.value inside held.has) })
+            subst (Finds new r) (sym (lt-ltb at known below))
+            (held.value, held.among, record { standing = On disc; stands = mounted.finds.found; fits = fits_led (On disc) (settled_at r held.value) (found_some lost at disc r held.value inside held.has) })
+        | inr beyond ↦
+            let past : length disc < 2048 * (at + 1) = omega (arith, long) in
+            subst (Finds new r) (sym (le-ltb at known beyond))
+            (record { standing = On disc; stands = mounted.finds.found; fits = fits_led (On disc) (emptied r) (found_none lost at disc r past) })
       ]
 
 -- one register for both
 module _ (at : ℕ) (new : MirrorShown) (r : MirrorRegister) (known : new.who.known ≡ true) where
-  abbrev IsFound : MirrorRegister → Type 0
-  IsFound after = ((value : Value) × Contains r.falls value × (after ≡ led_on (settled_at r value))) ⊎ (after ≡ led_on (emptied r))
+  abbrev IsFound : (has : Bool) → MirrorRegister → Type 0
+  IsFound has after = MatchBool has ((value : Value) × Contains r.falls value × (after ≡ led_on (settled_at r value))) (after ≡ led_on (emptied r))
 
-  no_sector : HeldBoth at new (led_on (emptied r)) → Turned at new IsFound
-  no_sector both = record { after = led_on (emptied r); rule = inr refl; matches = match_led at new (led_on (emptied r)) known refl both }
+  has_sector : (value : Value) → Contains r.falls value → HeldBoth at new (led_on (settled_at r value)) → Turned at new (IsFound true)
+  has_sector value among both = record { after = led_on (settled_at r value); rule = (value, among, refl); matches = match_led at new (led_on (settled_at r value)) known refl both }
 
-  has_sector : (value : Value) → Contains r.falls value → HeldBoth at new (led_on (settled_at r value)) → Turned at new IsFound
-  has_sector value among both = record { after = led_on (settled_at r value); rule = inl (value, among, refl); matches = match_led at new (led_on (settled_at r value)) known refl both }
-
-  join_values : (one_value other_value : Value) → Contains r.falls one_value → Contains r.falls other_value → Held one_lost at new (led_on (settled_at r one_value)) → Held other_lost at new (led_on (settled_at r other_value)) → Turned at new IsFound
+  join_values : (one_value other_value : Value) → Contains r.falls one_value → Contains r.falls other_value → Held one_lost at new (led_on (settled_at r one_value)) → Held other_lost at new (led_on (settled_at r other_value))
+      → Turned at new (IsFound true)
   join_values (Bytes bytes) other_value among also one other = has_sector (Bytes bytes) among (by_one at new (led_on (settled_at r (Bytes bytes))) (record { now = refl; falls = refl }) one)
   join_values Lost (Bytes bytes) among also one other = has_sector (Bytes bytes) also (by_other at new (led_on (settled_at r (Bytes bytes))) (record { now = refl; falls = refl }) other)
   join_values Lost Lost among also one other = has_sector Lost among (record { one = one; other = other })
 
-  join_found : Finds one_lost at new r → Finds other_lost at new r → Turned at new IsFound
-  join_found (inr none) other = no_sector (by_one at new (led_on (emptied r)) (record { now = refl; falls = refl }) none)
-  join_found (inl one) (inr none) = no_sector (by_other at new (led_on (emptied r)) (record { now = refl; falls = refl }) none)
-  join_found (inl one) (inl other) = join_values one.0 other.0 one.1 other.1 one.2 other.2
+  join_found : (has : Bool) → Finds one_lost at new r has → Finds other_lost at new r has → Turned at new (IsFound has)
+  join_found true one other = join_values one.0 other.0 one.1 other.1 one.2 other.2
+  join_found false none other = record {
+    after = led_on (emptied r);
+    rule = refl;
+    matches = match_led at new (led_on (emptied r)) known refl (by_one at new (led_on (emptied r)) (record { now = refl; falls = refl }) none);
+  }
 
   bare_both : MayBe new (On []) → HeldBoth at new (led_on (emptied r))
   bare_both may = record { one = bare one_lost; other = bare other_lost }
@@ -283,8 +298,9 @@ module _ (at : ℕ) (old new : MirrorShown) (r : MirrorRegister) (was : MatchesM
           b = side_mounted lost at (side_b new) r.falls sides.b.standing sides.b.fall step.of_b;
         }
 
-  ready : (capacity : ℕ) → new.who.known ≡ true → Part one_lost (outs.Ready capacity) → Part other_lost (outs.Ready capacity) → Turned at new (λ after. OnPower r (power_told (outs.Ready capacity)) after)
-  ready capacity known one other = join_found at new r known (finds one_lost at new r one.lead one.fall one.leads) (finds other_lost at new r other.lead other.fall other.leads)
+  ready : (capacity : ℕ) → new.who.known ≡ true → Part one_lost (outs.Ready capacity) → Part other_lost (outs.Ready capacity) → Turned at new (λ after. OnPower at r (power_told (outs.Ready capacity)) after)
+  ready capacity known one other =
+      join_found at new r known (nat_lt at capacity) (finds one_lost at new r one.lead capacity one.fall one.leads) (finds other_lost at new r other.lead capacity other.fall other.leads)
 
   bare : new.who.known ≡ true → MayBe new (On []) → Turned at new (λ after. after ≡ led_on (emptied r))
   bare known may = record { after = led_on (emptied r); rule = refl; matches = match_led at new (led_on (emptied r)) known refl (bare_both at new r known may) }
@@ -312,10 +328,10 @@ module _ (at : ℕ) (old new : MirrorShown) (r : MirrorRegister) (was : MatchesM
   gone_led held led known = record { after = has_none r; rule = refl; matches = match_led at new (has_none r) known led held }
 
   power_led : (out : MirrorPowerOut) → r.led ≡ true → old.who.known ≡ true → HeldBoth at old r → PowerTells old new out
-      → ((s t : Standing) → StandsFor (side_a old) s → StandsFor (side_b old) t → PowersAs out s t) → Turned at new (λ after. OnPower r (power_told out) after)
+      → ((s t : Standing) → StandsFor (side_a old) s → StandsFor (side_b old) t → PowersAs out s t) → Turned at new (λ after. OnPower at r (power_told out) after)
   power_led out led known held tells steps = go out tells.tells (led_part out steps (tells.stays known) one_lost held.one) (led_part out steps (tells.stays known) other_lost held.other)
     where
-      go : (out : MirrorPowerOut) → Tells old new out → Part one_lost out → Part other_lost out → Turned at new (λ after. OnPower r (power_told out) after)
+      go : (out : MirrorPowerOut) → Tells old new out → Part one_lost out → Part other_lost out → Turned at new (λ after. OnPower at r (power_told out) after)
       go (outs.Ready capacity) told one other = ready capacity told one other
       go outs.NotFormatted told one other = bare told one.leads
       go outs.Unknown told one other = forgotten_led one.a.standing one.b.standing one.a.stands one.b.stands led told.0 told.1
@@ -323,20 +339,20 @@ module _ (at : ℕ) (old new : MirrorShown) (r : MirrorRegister) (was : MatchesM
       go outs.Fault told one other = gone_led (record { one = mirror_mounted one_lost at new r one.lead one.fall one.leads; other = mirror_mounted other_lost at new r other.lead other.fall other.leads }) led (told.0 ∙ known)
 
   power_none : (out : MirrorPowerOut) → r.led ≡ false → old.who.known ≡ false → NobodyHolds at old r → PowerTells old new out
-      → ((s t : Standing) → StandsFor (side_a old) s → StandsFor (side_b old) t → PowersAs out s t) → Turned at new (λ after. OnPower r (power_told out) after)
+      → ((s t : Standing) → StandsFor (side_a old) s → StandsFor (side_b old) t → PowersAs out s t) → Turned at new (λ after. OnPower at r (power_told out) after)
   power_none out led known held tells steps = go out tells.tells (none_part out steps one_lost held.one) (none_part out steps other_lost held.other) (none_sides out steps one_lost held.one, none_sides out steps other_lost held.other)
     where
-      go : (out : MirrorPowerOut) → Tells old new out → Part one_lost out → Part other_lost out → Nobody r.falls → Turned at new (λ after. OnPower r (power_told out) after)
+      go : (out : MirrorPowerOut) → Tells old new out → Part one_lost out → Part other_lost out → Nobody r.falls → Turned at new (λ after. OnPower at r (power_told out) after)
       go (outs.Ready capacity) told one other sides = ready capacity told one other
       go outs.NotFormatted told one other sides = bare told one.leads
       go outs.Unknown told one other sides = forgotten_none sides led told.0 told.1
       go outs.Cut told one other sides = gone_none sides led (told.0 ∙ known) told.1
       go outs.Fault told one other sides = gone_none sides led (told.0 ∙ known) told.1
 
-  pub power_called : (told : MirrorEvent) → PowerCall old new told → Turned at new (λ after. OnPower r told after)
+  pub power_called : (told : MirrorEvent) → PowerCall old new told → Turned at new (λ after. OnPower at r told after)
   power_called told call =
-      subst (λ (e : MirrorEvent). Turned at new (λ after. OnPower r e after)) (sym call.told_is)
-      (by_known at old new r was (λ after. OnPower r (power_told call.out) after)
+      subst (λ (e : MirrorEvent). Turned at new (λ after. OnPower at r e after)) (sym call.told_is)
+      (by_known at old new r was (λ after. OnPower at r (power_told call.out) after)
       (λ known led held. power_led call.out led known held (power_tells old new call.out call.cause) call.step)
       (λ known led held. power_none call.out led known held (power_tells old new call.out call.cause) call.step))
 

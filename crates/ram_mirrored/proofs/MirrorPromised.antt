@@ -26,13 +26,13 @@ use Rattle.ram_pair.specs.declared.told.Told.TheVariants as told
 use Rattle.ram_pair.specs.Told.{PairOutcome, image_failed}
 use Rattle.ram_pair.specs.PairStates.{Mirrored, PairState, Unpaired, Paired}
 use Rattle.ram_pair.specs.PairLines.{CallRule}
-use Rattle.ram_pair.specs.PairSteps.{MirrorStep, OnMirror, PairStep}
+use Rattle.ram_pair.specs.PairSteps.{IsImageFailure, MirrorStep, OnMirror, PairStep}
 use Rattle.ram_pair.specs.PairTexts.{told_text, is_answer, IsPairStep, PairRun}
 use Rattle.model_geometry.specs.Geometry.{shape_in}
 use Rattle.model_geometry.specs.declared.kinds.LayoutKind.TheVariants.{OneGroup}
 use Rattle.ram_mirrored.specs.MirrorRuns.{MirrorBeginning, MirrorSoFar, MirrorToldWith, MirrorStandsWith}
 use Rattle.ram_mirrored.specs.MirrorRegister.{MirrorRegister, OnLine, MirrorTurn, MirrorTurns, MirrorAnswered}
-use Rattle.ram_mirrored.specs.MirrorPromise.{IsMirrorRead, answered_text, texts_of, IsLostFailure, NoneIsLost, KeepsPair}
+use Rattle.ram_mirrored.specs.MirrorPromise.{IsMirrorRead, answered_text, texts_of, KeepsPair}
 use Rattle.ram_mirrored.proofs.MirrorSectors.{MatchesMirror, Turned}
 use Rattle.ram_mirrored.proofs.MirrorCalls.{read_called, write_called, format_called, resync_called}
 use Rattle.ram_mirrored.proofs.MirrorPowered.{power_called, lead_called, give_called}
@@ -64,7 +64,7 @@ is_whole raw _ payload reads = tt
 
 -- ---- a line
 module _ (at : ℕ) where
-  call_turn : (s t : Mirrored) (r : MirrorRegister) (line : MirrorLine) (payload bytes : List ℕ) (event : MirrorEvent) → IsWhole line payload → ¬ IsLostFailure line (told.Event event) → MatchesMirror at s.shown r
+  call_turn : (s t : Mirrored) (r : MirrorRegister) (line : MirrorLine) (payload bytes : List ℕ) (event : MirrorEvent) → IsWhole line payload → ¬ IsImageFailure line event → MatchesMirror at s.shown r
       → CallRule s.shown t.shown line payload bytes event → Turned at t.shown (λ after. OnLine at r line payload event bytes after)
   call_turn s t r lines.Empty payload bytes event whole lost was rule = absurd rule
   call_turn s t r (lines.Press zones scale psa) payload bytes event whole lost was rule = absurd rule
@@ -76,7 +76,7 @@ module _ (at : ℕ) where
   call_turn s t r lines.Lead payload bytes event whole lost was rule = lead_called at s.shown t.shown r was event rule
   call_turn s t r (lines.GiveLead to_a) payload bytes event whole lost was rule = give_called at s.shown t.shown r was to_a event rule
   call_turn s t r (lines.Fail on_a block) payload bytes event whole lost was rule =
-      fail_called at s.shown t.shown r was on_a block event (λ is. lost (subst (λ (e : MirrorEvent). IsLostFailure (lines.Fail on_a block) (told.Event e)) (sym is) tt)) rule
+      fail_called at s.shown t.shown r was on_a block event (λ is. lost (subst (IsImageFailure (lines.Fail on_a block)) (sym is) tt)) rule
   call_turn s t r (lines.Wear on_a block n) payload bytes event whole lost was rule = wear_called at s.shown t.shown r was on_a block n event rule
   call_turn s t r (lines.Cut on_a n fate) payload bytes event whole lost was rule = cut_called at s.shown t.shown r was on_a n fate event rule
 
@@ -87,22 +87,22 @@ module _ (at : ℕ) where
   not_stopped one is = cc
 
   -- what was called is what was told
-  outcome_of : (s t : Mirrored) (r : MirrorRegister) (line : MirrorLine) (payload bytes : List ℕ) (reply : Told) → IsWhole line payload → ¬ IsLostFailure line reply → MatchesMirror at s.shown r
+  outcome_of : (s t : Mirrored) (r : MirrorRegister) (line : MirrorLine) (payload bytes : List ℕ) (reply : Told) → IsWhole line payload → MatchesMirror at s.shown r
       → (step : MirrorStep s t line payload (Ok reply) bytes) → Turned at t.shown (λ after. MirrorTurn at r line payload reply bytes after)
-  outcome_of s t r line payload bytes reply whole lost was step = elim step.ends [
+  outcome_of s t r line payload bytes reply whole was step = elim step.ends [
     | inl done ↦
         let is : reply ≡ told.Event step.called = same_told reply (told.Event step.called) done.1 in
         subst (λ (x : Told). Turned at t.shown (λ after. MirrorTurn at r line payload x bytes after)) (sym is)
-        (call_turn s t r line payload bytes step.called whole (subst (λ (x : Told). ¬ IsLostFailure line x) is lost) was step.rule)
+        (call_turn s t r line payload bytes step.called whole (λ lost. not_stopped reply (step.lost lost)) was step.rule)
     | inr failed ↦ absurd (not_stopped reply failed.1)
   ]
 
-  mirror_turn : (s t : PairState) (r : MirrorRegister) (line : MirrorLine) (payload bytes : List ℕ) (reply : Told) → IsWhole line payload → ¬ IsLostFailure line reply → MatchesPair at s r
+  mirror_turn : (s t : PairState) (r : MirrorRegister) (line : MirrorLine) (payload bytes : List ℕ) (reply : Told) → IsWhole line payload → MatchesPair at s r
       → OnMirror s line payload (Ok reply) bytes t → TurnedPair at t (λ after. MirrorTurn at r line payload reply bytes after)
-  mirror_turn (Unpaired images) t r line payload bytes reply whole lost was step = absurd (let clash : Ok reply ≡ Err stopped.NotADisc = step.0 in cc)
-  mirror_turn (Paired s) (Unpaired images) r line payload bytes reply whole lost was step = absurd step
-  mirror_turn (Paired s) (Paired t) r line payload bytes reply whole lost was step =
-      let turned = outcome_of s t r line payload bytes reply whole lost was step in
+  mirror_turn (Unpaired images) t r line payload bytes reply whole was step = absurd (let clash : Ok reply ≡ Err stopped.NotADisc = step.0 in cc)
+  mirror_turn (Paired s) (Unpaired images) r line payload bytes reply whole was step = absurd step
+  mirror_turn (Paired s) (Paired t) r line payload bytes reply whole was step =
+      let turned = outcome_of s t r line payload bytes reply whole was step in
       record { after = turned.after; rule = turned.rule; matches = turned.matches }
 
   empty_turn : (s t : PairState) (r : MirrorRegister) (payload bytes : List ℕ) (reply : Told) → MatchesPair at s r → ◌≡◌ {A = PairOutcome} (Ok reply) (Ok told.Nothing) → t ≡ s → TurnedPair at t (λ after. MirrorTurn at r lines.Empty payload reply bytes after)
@@ -117,20 +117,20 @@ module _ (at : ℕ) where
   pressed_turn s t r zones scale psa payload bytes told.Nothing was step = absurd step
   pressed_turn s t r zones scale psa payload bytes (told.Event event) was step = press_turn at s t r (shape_in OneGroup zones scale psa) event step was
 
-  line_turn : (s t : PairState) (r : MirrorRegister) (line : MirrorLine) (payload bytes : List ℕ) (reply : Told) → IsWhole line payload → ¬ IsLostFailure line reply → MatchesPair at s r
+  line_turn : (s t : PairState) (r : MirrorRegister) (line : MirrorLine) (payload bytes : List ℕ) (reply : Told) → IsWhole line payload → MatchesPair at s r
       → PairStep s line payload (Ok reply) bytes t → TurnedPair at t (λ after. MirrorTurn at r line payload reply bytes after)
-  line_turn s t r lines.Empty payload bytes reply whole lost was step = empty_turn s t r payload bytes reply was step.0 step.1
-  line_turn s t r (lines.Press zones scale psa) payload bytes reply whole lost was step = pressed_turn s t r zones scale psa payload bytes reply was step
-  line_turn s t r lines.Power payload bytes reply whole lost was step = mirror_turn s t r lines.Power payload bytes reply whole lost was step
-  line_turn s t r lines.Format payload bytes reply whole lost was step = mirror_turn s t r lines.Format payload bytes reply whole lost was step
-  line_turn s t r (lines.Read lba n) payload bytes reply whole lost was step = mirror_turn s t r (lines.Read lba n) payload bytes reply whole lost was step
-  line_turn s t r (lines.Write lba n) payload bytes reply whole lost was step = mirror_turn s t r (lines.Write lba n) payload bytes reply whole lost was step
-  line_turn s t r lines.Resync payload bytes reply whole lost was step = mirror_turn s t r lines.Resync payload bytes reply whole lost was step
-  line_turn s t r lines.Lead payload bytes reply whole lost was step = mirror_turn s t r lines.Lead payload bytes reply whole lost was step
-  line_turn s t r (lines.GiveLead to_a) payload bytes reply whole lost was step = mirror_turn s t r (lines.GiveLead to_a) payload bytes reply whole lost was step
-  line_turn s t r (lines.Fail on_a block) payload bytes reply whole lost was step = mirror_turn s t r (lines.Fail on_a block) payload bytes reply whole lost was step
-  line_turn s t r (lines.Wear on_a block n) payload bytes reply whole lost was step = mirror_turn s t r (lines.Wear on_a block n) payload bytes reply whole lost was step
-  line_turn s t r (lines.Cut on_a n fate) payload bytes reply whole lost was step = mirror_turn s t r (lines.Cut on_a n fate) payload bytes reply whole lost was step
+  line_turn s t r lines.Empty payload bytes reply whole was step = empty_turn s t r payload bytes reply was step.0 step.1
+  line_turn s t r (lines.Press zones scale psa) payload bytes reply whole was step = pressed_turn s t r zones scale psa payload bytes reply was step
+  line_turn s t r lines.Power payload bytes reply whole was step = mirror_turn s t r lines.Power payload bytes reply whole was step
+  line_turn s t r lines.Format payload bytes reply whole was step = mirror_turn s t r lines.Format payload bytes reply whole was step
+  line_turn s t r (lines.Read lba n) payload bytes reply whole was step = mirror_turn s t r (lines.Read lba n) payload bytes reply whole was step
+  line_turn s t r (lines.Write lba n) payload bytes reply whole was step = mirror_turn s t r (lines.Write lba n) payload bytes reply whole was step
+  line_turn s t r lines.Resync payload bytes reply whole was step = mirror_turn s t r lines.Resync payload bytes reply whole was step
+  line_turn s t r lines.Lead payload bytes reply whole was step = mirror_turn s t r lines.Lead payload bytes reply whole was step
+  line_turn s t r (lines.GiveLead to_a) payload bytes reply whole was step = mirror_turn s t r (lines.GiveLead to_a) payload bytes reply whole was step
+  line_turn s t r (lines.Fail on_a block) payload bytes reply whole was step = mirror_turn s t r (lines.Fail on_a block) payload bytes reply whole was step
+  line_turn s t r (lines.Wear on_a block n) payload bytes reply whole was step = mirror_turn s t r (lines.Wear on_a block n) payload bytes reply whole was step
+  line_turn s t r (lines.Cut on_a n fate) payload bytes reply whole was step = mirror_turn s t r (lines.Cut on_a n fate) payload bytes reply whole was step
 
 -- ---- the lines of a run, with what they say
 abbrev answer_of : (before : PairState) (number : ℕ) (event : AnsweredText) (after : PairState) → IsPairStep before number event after → MirrorAnswered
@@ -165,13 +165,13 @@ all_read first last (event ∷ events) run =
     (record { line = run.2.line; reads = run.2.step.reads }) (all_read first run.0 events run.1)
 
 module _ (at : ℕ) where
-  run_turns : (first last : PairState) (events : List AnsweredText) (run : PairRun first events last) (r : MirrorRegister) → NoneIsLost (answers_of first last events run) → MatchesPair at first r
+  run_turns : (first last : PairState) (events : List AnsweredText) (run : PairRun first events last) (r : MirrorRegister) → MatchesPair at first r
       → TurnedPair at last (λ after. MirrorTurns at r (answers_of first last events run) after)
-  run_turns first last [] run r none was = record { after = r; rule = refl; matches = subst (λ (x : PairState). MatchesPair at x r) (sym run) was }
-  run_turns first last (event ∷ events) run r none was =
-      let before = run_turns first run.0 events run.1 r none.0 was in
+  run_turns first last [] run r was = record { after = r; rule = refl; matches = subst (λ (x : PairState). MatchesPair at x r) (sym run) was }
+  run_turns first last (event ∷ events) run r was =
+      let before = run_turns first run.0 events run.1 r was in
       let step = run.2.step in
-      let turned = line_turn at run.0 last before.after step.line step.payload run.2.bytes run.2.told (is_whole event.raw step.line step.payload step.reads) none.1 before.matches step.step in
+      let turned = line_turn at run.0 last before.after step.line step.payload run.2.bytes run.2.told (is_whole event.raw step.line step.payload step.reads) before.matches step.step in
       record { after = turned.after; rule = (before.after, before.rule, turned.rule); matches = turned.matches }
 
 -- ---- what stands with each status
@@ -188,9 +188,9 @@ module _ (first : MirrorBeginning) where
         rest = far.rest;
         lines = subst (λ (l : List AnsweredText). TakesUpTo first.script l far.rest) (sym same) far.lines;
         reads = all_read far.start far.now far.events far.run;
-        registers = λ none at.
+        registers = λ at.
             let opened = opens at first.images far.start far.begins in
-            let turned = run_turns at far.start far.now far.events far.run opened.register none opened.matches in
+            let turned = run_turns at far.start far.now far.events far.run opened.register opened.matches in
             record { first = opened.register; last = turned.after; opened = opened.opened; turns = turned.rule };
         bytes = bytes;
         more = more;
@@ -218,7 +218,7 @@ module _ (first : MirrorBeginning) where
     rest = first.script;
     lines = inl refl;
     reads = All-nil IsMirrorRead;
-    registers = λ none at.
+    registers = λ at.
         let begins : MirrorRegister = record { now = None; falls = []; led = false } in
         record { first = begins; last = begins; opened = record { off = refl; held = λ value has. absurd (Contains-none value has); unled = refl }; turns = refl };
     bytes = first.report;

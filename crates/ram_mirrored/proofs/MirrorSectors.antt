@@ -10,13 +10,14 @@ use Rattle.model_drive.specs.Shown.{Shown, StandsFor}
 use Rattle.model_cache.specs.Falling.{LiesIn}
 use Rattle.model_cache.proofs.Members.{Contains-none, Contains-first, Contains-later, Contains-cases}
 use Rattle.model_mirror.specs.Shown.{MirrorShown}
+use Rattle.model_mirror.specs.Sides.{side_a, side_b}
+use Rattle.model_mirror.specs.Standing.{MayBe}
 use Rattle.ram_machine.specs.SectorBytes.{bytes_of_sector, is_sector_among}
 use Rattle.ram_machine.specs.Register.{Value, Bytes, Lost}
 use Rattle.ram_machine.proofs.SectorValues.{bytes_under, now_under, falls_under}
 use Rattle.ram_machine.proofs.SectorFilled.{filled_differ}
 use Rattle.ram_machine.proofs.SectorNow.{now_of, now_there, now_gone, now_same}
 use Rattle.ram_machine.proofs.SectorBoth.{one_lost, other_lost}
-use Rattle.ram_pair.specs.PairStates.{side_a, side_b, MayBe}
 use Rattle.ram_mirrored.specs.MirrorRegister.{MirrorRegister, settled_at, has_none, emptied}
 
 -- what is there now

@@ -1,5 +1,5 @@
 -- What a mirror acknowledged stays, and is shown: from the register alone.
-use Rattle.std.specs.Prelude.{◌≡◌, ◌≢◌, ℕ, ◌*◌, Bool, true, false, MatchBool, Option, None, Some, List, [], ◌∷◌, length}
+use Rattle.std.specs.Prelude.{◌≡◌, ◌≢◌, ℕ, ◌*◌, Bool, true, false, nat_lt, MatchBool, Option, None, Some, List, [], ◌∷◌, length}
 use Rattle.std.specs.List.{Contains}
 use Rattle.std.proofs.Common.{refl, sym, ◌∙◌, inl, inr, subst}
 use Rattle.model_cache.proofs.Members.{Contains-none, Contains-cases}
@@ -35,11 +35,14 @@ module _ (at : ℕ) (bytes : List ℕ) where
   now_one : (r : MirrorRegister) (value : Value) → value ≡ Bytes bytes → HasSettledOn (settled_at r value) bytes
   now_one r value is = record { shows = λ found some. sym (same_some value found some) ∙ is; falls = λ found there. one_value value found is there }
 
-  by_power : (r after : MirrorRegister) (event : MirrorEvent) → told.Event event ≢ told.Event mirrors.Unknown → OnPower r event after → HasSettledOn r bytes → HasSettledOn after bytes
-  by_power r after (mirrors.OfDisc (events.Ready capacity)) leads (inl (value, among, is)) has =
-      let one = now_one r value (has.falls value among) in
-      kept (led_on (settled_at r value)) after is (record { shows = one.shows; falls = one.falls })
-  by_power r after (mirrors.OfDisc (events.Ready capacity)) leads (inr is) has = none_left r after is has
+  by_power : (r after : MirrorRegister) (event : MirrorEvent) → told.Event event ≢ told.Event mirrors.Unknown → OnPower at r event after → HasSettledOn r bytes → HasSettledOn after bytes
+  by_power r after (mirrors.OfDisc (events.Ready capacity)) leads is has = go (nat_lt at capacity) is
+    where
+      go : (there : Bool) → MatchBool there ((value : Value) × Contains r.falls value × (after ≡ led_on (settled_at r value))) (after ≡ led_on (emptied r)) → HasSettledOn after bytes
+      go true (value, among, is) =
+          let one = now_one r value (has.falls value among) in
+          kept (led_on (settled_at r value)) after is (record { shows = one.shows; falls = one.falls })
+      go false is = none_left r after is has
   by_power r after (mirrors.OfDisc events.NotFormatted) leads is has = none_left r after is has
   by_power r after mirrors.Unknown leads is has = absurd (leads refl)
   by_power r after (mirrors.OfDisc events.Cut) leads is has = went r after is has

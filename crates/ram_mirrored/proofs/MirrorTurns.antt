@@ -26,13 +26,13 @@ use Rattle.model_mirror.specs.declared.Resync.{Resync}
 use Rattle.model_mirror.specs.declared.Resync.TheVariants as resyncs
 use Rattle.model_mirror.specs.Shown.{MirrorShown}
 use Rattle.model_mirror.specs.Steps.{ResyncStep}
+use Rattle.model_mirror.specs.Standing.{MayBe}
 use Rattle.ram_machine.specs.SectorBytes.{bytes_of_sector, is_sector_among}
 use Rattle.ram_machine.specs.Register.{Value, Bytes}
 use Rattle.ram_machine.proofs.SectorValues.{now_under, falls_under}
 use Rattle.ram_machine.proofs.SectorNow.{now_there}
 use Rattle.ram_machine.proofs.SectorBoth.{one_lost, other_lost}
 use Rattle.ram_pair.specs.Told.{read_told, write_told, format_told, resync_told}
-use Rattle.ram_pair.specs.PairStates.{MayBe}
 use Rattle.ram_pair.specs.PairLines.{Leads}
 use Rattle.ram_mirrored.specs.MirrorRegister.{MirrorRegister, settled_at, or_later, has_none, emptied, written_before, OnRead, OnWrite, OnOther, OnFormat, OnResync}
 use Rattle.ram_mirrored.proofs.MirrorSectors.{now_at, FallTo, Fits, Held, HeldBoth, MatchesMirror, Turned, match_led, shown_value, KnowsAll, by_one, by_other, fits_same, fits_off, found_some, found_none, fits_two, fall_more, fall_short, fall_one, unreached, reached, either, zeros_sector, is_among, is_beside, sector_among, has_sectors}

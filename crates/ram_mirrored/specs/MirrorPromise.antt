@@ -1,18 +1,12 @@
 -- What a user may rely on of a run of a mirror, by its script, its report and the bytes of both images alone: each sector is a register.
 -- (This project's own, as all here.)
 use Rattle.std.specs.Prelude.{◌≡◌, ℕ, ◌+◌, if◌then◌else◌, Option, Some, List, [], ◌∷◌, ◌++◌, All, length}
-use Rattle.ram_report.specs.declared.printing.Event.TheVariants as events
 use Rattle.ram_report.specs.declared.printing.LastLine.{LastLine}
-use Rattle.ram_report.specs.declared.printing.MirrorEvent.TheVariants as mirrors
 use Rattle.ram_text.specs.MirrorScript.{MirrorReads}
-use Rattle.ram_text.specs.declared.mirror.MirrorLine.{MirrorLine}
-use Rattle.ram_text.specs.declared.mirror.MirrorLine.TheVariants as lines
 use Rattle.ram_script.specs.NextLines.{IsLine}
 use Rattle.ram_script.specs.Promise.{last_words}
 use Rattle.ram_answers.specs.Texts as texts
 use Rattle.ram_answers.specs.Texts.{AnsweredText, TakesUpTo}
-use Rattle.ram_pair.specs.declared.told.Told.{Told}
-use Rattle.ram_pair.specs.declared.told.Told.TheVariants as told
 use Rattle.ram_pair.specs.PairStates.{TwoImages}
 use Rattle.ram_pair.specs.PairTexts.{told_text, is_answer}
 use Rattle.ram_mirrored.specs.MirrorRegister.{MirrorAnswered, IsMirrorRegister}
@@ -35,17 +29,6 @@ abbrev pub texts_of : List MirrorAnswered → List AnsweredText
 texts_of [] = []
 texts_of (event ∷ events) = answered_text (length events + 1) event ∷ texts_of events
 
--- A line that makes a block fail was told as a cut: the image failed in it, and its count of failures stands at its end, so that no count
--- rose; else the run ends there.
-abbrev pub IsLostFailure : MirrorLine → Told → Type 0
-IsLostFailure (lines.Fail on_a block) (told.Event (mirrors.OfDisc events.Cut)) = Unit {0}
-IsLostFailure line told = ⊥
-
--- none of the lines was
-abbrev pub NoneIsLost : List MirrorAnswered → Type 0
-NoneIsLost [] = Unit {0}
-NoneIsLost (event ∷ events) = NoneIsLost events × ¬ IsLostFailure event.line event.told
-
 -- The promise: what was written is the beginning of the answers to some of the script's first lines, behind what was written before, and of
 -- a last line; and each sector is a register over these lines.
 pub record KeepsPair (script report : List ℕ) (images : TwoImages) (written : Option (List ℕ)) : Type 0 where
@@ -53,7 +36,7 @@ pub record KeepsPair (script report : List ℕ) (images : TwoImages) (written : 
   pub rest : List ℕ
   pub lines : TakesUpTo script (texts_of events) rest
   pub reads : All IsMirrorRead events
-  pub registers : NoneIsLost events → (at : ℕ) → IsMirrorRegister images events at
+  pub registers : (at : ℕ) → IsMirrorRegister images events at
   pub bytes : List ℕ
   pub more : List ℕ
   pub last : Option LastLine

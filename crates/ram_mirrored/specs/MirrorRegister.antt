@@ -54,14 +54,15 @@ OnPress r (mirrors.OfDisc events.Pressed) after = after ≡ record { now = None;
 OnPress r (mirrors.OfDisc events.NotPressed) after = after ≡ r
 OnPress r _ after = ⊥
 
--- The power went off, and on again. A disc that is ready has one of the values that the sector might have, or it has no such sector.
-abbrev pub OnPower : MirrorRegister → MirrorEvent → MirrorRegister → Type 0
-OnPower r (mirrors.OfDisc (events.Ready capacity)) after =
-    ((value : Value) × Contains r.falls value × (after ≡ led_on (settled_at r value))) ⊎ (after ≡ led_on (emptied r))
-OnPower r (mirrors.OfDisc events.NotFormatted) after = after ≡ led_on (emptied r)
-OnPower r mirrors.Unknown after = LeadsAnew r false after
-OnPower r (mirrors.OfDisc events.Cut) after = after ≡ has_none r
-OnPower r _ after = ⊥
+-- The power went off, and on again. A disc that is ready tells how many sectors it has: each of them has one of the values that it might
+-- have, and no other sector has any.
+abbrev pub OnPower : (at : ℕ) → MirrorRegister → MirrorEvent → MirrorRegister → Type 0
+OnPower at r (mirrors.OfDisc (events.Ready capacity)) after = MatchBool (nat_lt at capacity)
+    ((value : Value) × Contains r.falls value × (after ≡ led_on (settled_at r value))) (after ≡ led_on (emptied r))
+OnPower at r (mirrors.OfDisc events.NotFormatted) after = after ≡ led_on (emptied r)
+OnPower at r mirrors.Unknown after = LeadsAnew r false after
+OnPower at r (mirrors.OfDisc events.Cut) after = after ≡ has_none r
+OnPower at r _ after = ⊥
 
 -- What a call leaves that neither read nor wrote the sector to the end: what was there, and nothing now where the power was cut.
 abbrev pub OnRefusal : MirrorRegister → MirrorEvent → MirrorRegister → Type 0
@@ -135,7 +136,7 @@ OnGiven r to_a _ after = ⊥
 abbrev pub OnLine : (at : ℕ) → MirrorRegister → MirrorLine → (payload : List ℕ) → MirrorEvent → (bytes : List ℕ) → MirrorRegister → Type 0
 OnLine at r lines.Empty payload event bytes after = ⊥
 OnLine at r (lines.Press zones scale psa) payload event bytes after = OnPress r event after
-OnLine at r lines.Power payload event bytes after = OnPower r event after
+OnLine at r lines.Power payload event bytes after = OnPower at r event after
 OnLine at r (lines.Read lba n) payload event bytes after = OnRead at r lba n bytes event after
 OnLine at r (lines.Write lba n) payload event bytes after = MatchBool (is_sector_among lba n at)
     (OnWrite at r (bytes_of_sector lba payload at) event after) (OnOther r event after)

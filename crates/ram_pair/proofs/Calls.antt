@@ -1,16 +1,16 @@
 -- What a call of a mirror makes of what it shows and stands for, and of the bytes of both images.
-use Rattle.std.specs.Prelude.{◌≡◌, ℕ, not, Bool, true, false, Option, List}
+use Rattle.std.specs.Prelude.{ℕ, not, Bool, true, false, Option, List}
 use Rattle.std.proofs.Common.{refl, sym, subst}
 use Rattle.model_geometry.specs.Geometry.{total}
 use Rattle.model_sectors.specs.Discs.{Standing}
 use Rattle.model_drive.specs.Shown.{Shown, StandsFor}
-use Rattle.model_drive.specs.Faults.{faults}
-use Rattle.model_mirror.specs.Shown.{MirrorShown}
 use Rattle.model_mirror.specs.declared.MirrorPowerOut.{MirrorPowerOut}
 use Rattle.model_mirror.specs.declared.GiveOut.{GiveOut}
 use Rattle.model_mirror.specs.Powers.{MirrorPowerCause, MirrorPowerStep}
 use Rattle.model_mirror.specs.Giving.{GiveLeadCause, GiveStepOf}
 use Rattle.model_mirror.proofs.Mapping.{mirror_power_mapped, give_of_mapped}
+use Rattle.model_mirror.specs.Sides.{side_a, side_b}
+use Rattle.model_mirror.specs.Standing.{MayBe}
 use Rattle.ram_sectors.specs.declared.Sectors.{Ghosts as Drives}
 use Rattle.ram_sectors.specs.Laws.{SectorsLaws}
 use Rattle.ram_mirror.specs.Sides.{SidesUnderwent}
@@ -19,9 +19,8 @@ use Rattle.ram_mirror.specs.declared.mirror.Mirror.{Mirror}
 use Rattle.ram_mirror.specs.Mirrors.{roles, mirror_shows, mirror_stands}
 use Rattle.ram_machine.specs.Underwent.{UnderwentEvents}
 use Rattle.ram_side.specs.Side.{SideLaws}
-use Rattle.ram_pair.specs.PairStates.{side_a, side_b, MayBe}
 use Rattle.ram_pair.specs.PairLines.{Leads, PowerCall, GiveCall}
-use Rattle.ram_pair.specs.PairSteps.{Lying, BothUnderwent}
+use Rattle.ram_pair.specs.PairSteps.{BothUnderwent}
 use Rattle.ram_pair.specs.Pairs.{lies_by}
 use Rattle.ram_pair.specs.Calls.{BothTracked, SameShapes}
 use Rattle.ram_pair.specs.Told.{power_told, give_told}

@@ -1,11 +1,12 @@
 -- A line is done: its call, from both sides as they were watched, and whether an image failed in it.
-use Rattle.std.specs.Prelude.{◌≡◌, ℕ, Bool, true, false, Option, List, Ok}
+use Rattle.std.specs.Prelude.{◌≡◌, ℕ, Bool, true, false, Option, List}
 use Rattle.std.proofs.Common.{refl, sym, ap, ◌∙◌, inl, inr, subst}
-use Rattle.model_counts.specs.Counts.{Rose}
+use Rattle.std.proofs.lemmas.Bool.{false≢true}
 use Rattle.model_drive.specs.Shown.{Shown}
 use Rattle.model_drive.specs.Faults.{faults}
 use Rattle.model_mirror.specs.Shown.{MirrorShown}
 use Rattle.model_mirror.specs.Watching.{TracksFaults}
+use Rattle.model_mirror.specs.Sides.{side_a, side_b}
 use Rattle.ram_sectors.specs.declared.Sectors.{Ghosts as Drives}
 use Rattle.ram_mirror.specs.declared.mirror.Mirror.{Mirror}
 use Rattle.ram_mirror.specs.declared.following.Following.{Following}
@@ -14,11 +15,10 @@ use Rattle.ram_mirror.specs.Sides.{shown_as}
 use Rattle.ram_report.specs.declared.printing.MirrorEvent.{MirrorEvent}
 use Rattle.ram_text.specs.declared.mirror.MirrorLine.{MirrorLine}
 use Rattle.ram_pair.specs.Told.{PairOutcome, answered, image_failed}
-use Rattle.ram_pair.specs.PairStates.{NoneFailed, OneFailed, side_a, side_b}
 use Rattle.ram_pair.specs.PairLines.{CallRule}
-use Rattle.ram_pair.specs.PairSteps.{Lying, LineImages, ComesOut}
+use Rattle.ram_pair.specs.PairSteps.{Lying, LineImages, ComesOut, IsImageFailure}
 use Rattle.ram_pair.specs.Pairs.{lies_by}
-use Rattle.ram_pair.specs.Calls.{SameShapes, BothTracked, IsCalled, IsDone}
+use Rattle.ram_pair.specs.Calls.{SameShapes, IsCalled, IsDone}
 use Rattle.ram_pair.proofs.Sides.{shown_a, shown_b}
 use Rattle.ram_pair.proofs.Tracked.{rose_where_told, same_where_not}
 
@@ -60,8 +60,9 @@ module _ {S : Type 0} (sides : Drives S) (lies_in : S → Option (List ℕ)) (ha
     pub tracks_b : TracksFaults (faults (sides.shows old.b)) (faults (sides.shows new.b)) false (has_failed new.b)
     tracks_b = rw (sym (ap (λ (x : Shown). faults x) shows_b), sym none_b) is.tracks.b
 
-    done_with : (outcome : PairOutcome) → ComesOut (mirror_shows sides sides old) (mirror_shows sides sides new) called outcome → IsDone sides lies_in old new line payload bytes outcome
-    done_with outcome ends = record { called = called; rule = rule_from; images = images_from; ends = ends; shapes = shapes_from }
+    done_with : (outcome : PairOutcome) → ComesOut (mirror_shows sides sides old) (mirror_shows sides sides new) called outcome → (IsImageFailure line called → outcome ≡ image_failed)
+        → IsDone sides lies_in old new line payload bytes outcome
+    done_with outcome ends lost = record { called = called; rule = rule_from; images = images_from; ends = ends; lost = lost; shapes = shapes_from }
 
     count_a : (m : Mirror S S) → faults (side_a (mirror_shows sides sides m)) ≡ faults (sides.shows m.a)
     count_a m = ap (λ (x : Shown). faults x) (shown_a sides m)
@@ -71,11 +72,11 @@ module _ {S : Type 0} (sides : Drives S) (lies_in : S → Option (List ℕ)) (ha
 
     -- the first image failed
     pub failed_first : has_failed new.a ≡ true → IsDone sides lies_in old new line payload bytes image_failed
-    failed_first failed = done_with image_failed (inr (inl (rw (count_a old, count_a new) (rose_where_told _ _ _ tracks_a failed)), refl))
+    failed_first failed = done_with image_failed (inr (inl (rw (count_a old, count_a new) (rose_where_told _ _ _ tracks_a failed)), refl)) (λ lost. refl)
 
     -- the second did
     pub failed_second : has_failed new.b ≡ true → IsDone sides lies_in old new line payload bytes image_failed
-    failed_second failed = done_with image_failed (inr (inr (rw (count_b old, count_b new) (rose_where_told _ _ _ tracks_b failed)), refl))
+    failed_second failed = done_with image_failed (inr (inr (rw (count_b old, count_b new) (rose_where_told _ _ _ tracks_b failed)), refl)) (λ lost. refl)
 
     -- neither did
     pub none_did : has_failed new.a ≡ false → has_failed new.b ≡ false → IsDone sides lies_in old new line payload bytes (answered called)
@@ -85,4 +86,4 @@ module _ {S : Type 0} (sides : Drives S) (lies_in : S → Option (List ℕ)) (ha
         b = count_b new ∙ same_where_not _ _ _ tracks_b b ∙ sym (count_b old);
       },
       refl,
-    ))
+    )) (λ lost. absurd (elim (is.lost lost) [ inl failed ↦ false≢true (sym a ∙ failed) | inr failed ↦ false≢true (sym b ∙ failed) ]))

@@ -1,10 +1,10 @@
 -- The bytes of an image that are known stay so, whatever events come.
-use Rattle.std.specs.Prelude.{◌≡◌, ℕ, Bool, Option, None, Some, MatchOption, List, [], ◌∷◌}
+use Rattle.std.specs.Prelude.{◌≡◌, ℕ, Option, None, Some, MatchOption, List, [], ◌∷◌}
 use Rattle.std.proofs.Common.{refl, ap, ◌∙◌, subst}
 use Rattle.model_bytes.specs.Known.{WhereKnown}
 use Rattle.model_medium.specs.Machine.{Machine, fate_due, is_killed}
 use Rattle.model_medium.specs.Exact.{Event, Read, Write, PowerOn, PowerOff}
-use Rattle.model_medium.specs.Happened.{Happens, Happened}
+use Rattle.model_medium.specs.Happened.{Happens}
 use Rattle.model_medium.specs.declared.Fate.{Fate}
 use Rattle.ram_image.specs.EventBytes.{BytesAt, FailBytes, LeavesBytes}
 use Rattle.model_medium.specs.declared.ReadEnd.TheVariants as reads

@@ -1,7 +1,9 @@
 -- A line that was done with a mirror is a step of its state.
 use Rattle.std.specs.Prelude.{◌≡◌, ℕ, true, false, Option, Some, List}
-use Rattle.std.proofs.Common.{refl, ap, ◌∙◌, subst}
+use Rattle.std.proofs.Common.{refl, sym, ap, ◌∙◌, subst}
+use Rattle.model_drive.specs.Shown.{Shown}
 use Rattle.model_mirror.specs.Shown.{MirrorShown}
+use Rattle.model_mirror.specs.Sides.{side_a, side_b}
 use Rattle.ram_outside.specs.declared.image.Image.{Ghosts as Images}
 use Rattle.ram_sectors.specs.declared.Sectors.{Ghosts as Drives}
 use Rattle.ram_mirror.specs.declared.mirror.Mirror.{Mirror}
@@ -10,16 +12,17 @@ use Rattle.ram_text.specs.declared.mirror.MirrorLine.{MirrorLine}
 use Rattle.ram_text.specs.declared.mirror.MirrorLine.TheVariants as lines
 use Rattle.ram_report.specs.declared.printing.MirrorEvent.{MirrorEvent}
 use Rattle.model_geometry.specs.Geometry.{Shape, total}
-use Rattle.ram_pair.specs.declared.held.Held.{Held}
 use Rattle.ram_pair.specs.declared.held.Held.TheVariants as held
+use Rattle.ram_machine.specs.Drive.{HasCells}
 use Rattle.ram_pair.specs.Told.{PairOutcome}
-use Rattle.ram_pair.specs.PairStates.{PairState, Paired, Unpaired, Mirrored, side_a, side_b}
+use Rattle.ram_pair.specs.PairStates.{PairState, Paired, Unpaired, Mirrored}
 use Rattle.ram_pair.specs.PairSteps.{Lying, lying, BothUnderwent, LineImages, ComesOut, MirrorStep, OnMirror, PairStep}
 use Rattle.ram_pair.specs.PairLines.{CallRule}
 use Rattle.ram_pair.specs.Pairs.{HeldAs, IsMirrorIn, lies_by}
 use Rattle.ram_pair.specs.Calls.{IsDone}
 use Rattle.ram_pair.specs.Lines.{IsLineAnswered}
 use Rattle.ram_pair.proofs.KnownBytes.{AreKnown, underwent_known, fail_known}
+use Rattle.ram_pair.proofs.Sides.{shown_a, shown_b}
 
 -- a line that needs a mirror
 abbrev pub NeedsMirror : MirrorLine → Type 0
@@ -85,7 +88,8 @@ both_known s shown a b (lines.Wear on_a block n) called is = ((s.images.a, is.a)
 both_known s shown a b (lines.Cut on_a n fate) called is = ((s.images.a, is.a), (s.images.b, is.b))
 
 module _ {S I : Type 0} (sides : Drives S) (lies_in : S → Option (List ℕ)) (images : Images I) (old new : Mirror S S) (line : MirrorLine) (payload bytes : List ℕ) (outcome : PairOutcome)
-    (needs : NeedsMirror line) (done : IsDone sides lies_in old new line payload bytes outcome) where
+    (needs : NeedsMirror line) (done : IsDone sides lies_in old new line payload bytes outcome)
+    (cells_a : HasCells (sides.shows new.a).medium.world (lies_in new.a)) (cells_b : HasCells (sides.shows new.b).medium.world (lies_in new.b)) where
   mirror_left : (s : Mirrored) → IsMirrorIn sides lies_in old s → (t : Mirrored) × MirrorStep s t line payload outcome bytes × IsMirrorIn sides lies_in new t
   mirror_left s is =
       let before : lies_by sides lies_in old ≡ lying s = same_lying s.shown (mirror_shows sides sides old) (Some s.images.a) (Some s.images.b) (lies_in old.a) (lies_in old.b) is.shown_is is.a_is is.b_is in
@@ -99,6 +103,11 @@ module _ {S I : Type 0} (sides : Drives S) (lies_in : S → Option (List ℕ)) (
           rule = subst (λ (m : MirrorShown). CallRule m (mirror_shows sides sides new) line payload bytes done.called) is.shown_is done.rule;
           images = subst (λ (l : Lying). LineImages line done.called (lying s) l) after from;
           ends = subst (λ (m : MirrorShown). ComesOut m (mirror_shows sides sides new) done.called outcome) is.shown_is done.ends;
+          lost = done.lost;
+          cells = record {
+            a = subst (λ (x : Shown). HasCells x.medium.world (Some known.0.0)) (sym (shown_a sides new)) (subst (HasCells (sides.shows new.a).medium.world) known.0.1 cells_a);
+            b = subst (λ (x : Shown). HasCells x.medium.world (Some known.1.0)) (sym (shown_b sides new)) (subst (HasCells (sides.shows new.b).medium.world) known.1.1 cells_b);
+          };
         },
         record {
           kind = record { a = ap (λ (z : Shape). z.layout) done.shapes.a ∙ is.kind.a; b = ap (λ (z : Shape). z.layout) done.shapes.b ∙ is.kind.b };

@@ -2,14 +2,14 @@
 use Rattle.std.specs.Prelude.{◌≡◌, Bool, true, false}
 use Rattle.std.proofs.Common.{refl}
 use Rattle.model_sectors.specs.Discs.{Standing}
-use Rattle.model_drive.specs.Shown.{Shown}
 use Rattle.model_mirror.proofs.Mapping.{stands_mapped}
+use Rattle.model_mirror.specs.Sides.{side_a, side_b}
+use Rattle.model_mirror.specs.Standing.{MayBe}
 use Rattle.ram_sectors.specs.declared.Sectors.{Ghosts as Drives}
 use Rattle.ram_sectors.specs.Laws.{SectorsLaws}
 use Rattle.ram_mirror.specs.declared.following.Following.{Following}
 use Rattle.ram_mirror.specs.declared.mirror.Mirror.{Mirror}
 use Rattle.ram_mirror.specs.Mirrors.{roles, stands_roles, mirror_shows, mirror_stands}
-use Rattle.ram_pair.specs.PairStates.{side_a, side_b, MayBe}
 
 module _ {S : Type 0} (sides : Drives S) where
   roles_a : (lead : Bool) (x y : S) (following : Following) → side_a (roles sides sides lead x y following) ≡ sides.shows x

@@ -1,5 +1,5 @@
 -- What a call of a mirror may be asked for, and what is known of both sides after it. (This project's own, as all here.)
-use Rattle.std.specs.Prelude.{◌≡◌, ℕ, ◌+◌, ◌*◌, ◌≤◌, Bool, Option, List, length}
+use Rattle.std.specs.Prelude.{◌≡◌, ℕ, ◌+◌, ◌*◌, ◌≤◌, ◌⊎◌, Bool, true, Option, List, length}
 use Rattle.model_drive.specs.Faults.{faults}
 use Rattle.model_mirror.specs.Watching.{TracksFaults}
 use Rattle.ram_sectors.specs.declared.Sectors.{Ghosts as Drives}
@@ -8,9 +8,9 @@ use Rattle.ram_mirror.specs.Mirrors.{mirror_shows}
 use Rattle.ram_report.specs.declared.printing.MirrorEvent.{MirrorEvent}
 use Rattle.ram_text.specs.declared.mirror.MirrorLine.{MirrorLine}
 use Rattle.ram_text.specs.declared.mirror.MirrorLine.TheVariants as lines
-use Rattle.ram_pair.specs.Told.{PairOutcome}
+use Rattle.ram_pair.specs.Told.{PairOutcome, image_failed}
 use Rattle.ram_pair.specs.PairLines.{CallRule}
-use Rattle.ram_pair.specs.PairSteps.{LineImages, ComesOut}
+use Rattle.ram_pair.specs.PairSteps.{LineImages, ComesOut, IsImageFailure}
 use Rattle.ram_pair.specs.Pairs.{lies_by}
 
 -- A mirror can be asked for what the line says: no more sectors than go with one call, with all their data, and uses from 1 on.
@@ -45,6 +45,7 @@ module _ {S : Type 0} (sides : Drives S) (lies_in : S → Option (List ℕ)) (ha
     pub rule : CallRule (mirror_shows sides sides old) (mirror_shows sides sides new) line payload bytes called
     pub images : LineImages line called (lies_by sides lies_in old) (lies_by sides lies_in new)
     pub tracks : BothTracked sides has_failed old new
+    pub lost : IsImageFailure line called → (has_failed new.a ≡ true) ⊎ (has_failed new.b ≡ true)
     pub shapes : SameShapes sides old new
 
 -- the line was done, and came out so
@@ -54,4 +55,5 @@ pub record IsDone {S : Type 0} (sides : Drives S) (lies_in : S → Option (List 
   pub rule : CallRule (mirror_shows sides sides old) (mirror_shows sides sides new) line payload bytes called
   pub images : LineImages line called (lies_by sides lies_in old) (lies_by sides lies_in new)
   pub ends : ComesOut (mirror_shows sides sides old) (mirror_shows sides sides new) called outcome
+  pub lost : IsImageFailure line called → outcome ≡ image_failed
   pub shapes : SameShapes sides old new

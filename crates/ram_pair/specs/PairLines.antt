@@ -11,6 +11,7 @@ use Rattle.model_drive.specs.Shown.{Shown, StandsFor}
 use Rattle.model_drive.specs.Reads.{ReadStep}
 use Rattle.model_drive.specs.Writes.{WriteStep}
 use Rattle.model_drive.specs.Formats.{FormatStep}
+use Rattle.model_cache.specs.Chains.{LeavesSound}
 use Rattle.model_mirror.specs.declared.MirrorPowerOut.{MirrorPowerOut}
 use Rattle.model_mirror.specs.declared.Resync.{Resync}
 use Rattle.model_mirror.specs.declared.GiveOut.{GiveOut}
@@ -21,23 +22,20 @@ use Rattle.model_mirror.specs.Writes.{MirrorWriteCause}
 use Rattle.model_mirror.specs.Powers.{MirrorPowerCause, MirrorPowerStep}
 use Rattle.model_mirror.specs.Whole.{MirrorFormatCause, ResyncCause}
 use Rattle.model_mirror.specs.Giving.{GiveLeadCause, GiveStepOf, leader_of}
+use Rattle.model_mirror.specs.Sides.{side_a, side_b, side_of}
+use Rattle.model_mirror.specs.Standing.{MayBe}
 use Rattle.ram_medium.specs.Control.{WearRule, with_armed_cut}
 use Rattle.ram_medium.specs.declared.control.FailEnd.{FailEnd}
 use Rattle.ram_medium.specs.declared.control.FailEnd.TheVariants as fails
 use Rattle.ram_medium.specs.declared.control.Arm.{Arm}
 use Rattle.ram_states.specs.Control.{KeepsMemory, FailOnDrive}
+use Rattle.ram_side.specs.Side.{standing_after_fail}
 use Rattle.ram_report.specs.declared.printing.Event.TheVariants as events
 use Rattle.ram_report.specs.declared.printing.MirrorEvent.{MirrorEvent}
 use Rattle.ram_report.specs.declared.printing.MirrorEvent.TheVariants as mirrors
 use Rattle.ram_text.specs.declared.mirror.MirrorLine.{MirrorLine}
 use Rattle.ram_text.specs.declared.mirror.MirrorLine.TheVariants as lines
 use Rattle.ram_pair.specs.Told.{read_told, write_told, power_told, format_told, resync_told, lead_told, give_told, fail_told, wear_told}
-use Rattle.ram_pair.specs.PairStates.{side_a, side_b, MayBe}
-
--- what the side of this name shows
-abbrev pub side_of : (on_a : Bool) → MirrorShown → Shown
-side_of true shown = side_a shown
-side_of false shown = side_b shown
 
 -- what the mirror shows with another state of this side
 abbrev pub with_side : (on_a : Bool) → Shown → MirrorShown → MirrorShown
@@ -110,12 +108,14 @@ module _ (old new : MirrorShown) where
     pub of_b : (s : Standing) → StandsFor (side_b old) s → GiveStepOf (not to_a) (StandsFor (side_b new)) s out
     pub told_is : told ≡ give_told to_a out
 
-  -- a block of a side was to fail; where its image failed in it nothing is said of what the mirror may stand for
+  -- a block of a side was to fail; where its image failed in it, its power is off
   pub record FailCall (on_a : Bool) (block : ℕ) (told : MirrorEvent) : Type 0 where
     pub end : FailEnd
     pub rule : FailOnDrive (side_of on_a old) (side_of on_a new) block end
+    pub leaves : LeavesSound (side_of on_a old) (side_of on_a new)
     pub rest : new ≡ with_side on_a (side_of on_a new) old
     pub keeps : end ≢ fails.Failed → KeepsAll
+    pub stands : (s : Standing) → StandsFor (side_of on_a old) s → StandsFor (side_of on_a new) (standing_after_fail s end)
     pub told_is : told ≡ fail_told end
 
   -- a block of a side was to be armed
@@ -124,6 +124,7 @@ module _ (old new : MirrorShown) where
     pub rule : WearRule (total (side_of on_a old).shape) (side_of on_a old).medium (side_of on_a new).medium
         (record { block = block; left = n }) end
     pub memory : KeepsMemory (side_of on_a old) (side_of on_a new)
+    pub leaves : LeavesSound (side_of on_a old) (side_of on_a new)
     pub rest : new ≡ with_side on_a (side_of on_a new) old
     pub keeps : KeepsAll
     pub told_is : told ≡ wear_told end
@@ -132,6 +133,7 @@ module _ (old new : MirrorShown) where
   pub record CutCall (on_a : Bool) (n : ℕ) (fate : Fate) (told : MirrorEvent) : Type 0 where
     pub armed : (side_of on_a new).medium ≡ with_armed_cut n fate (side_of on_a old).medium
     pub memory : KeepsMemory (side_of on_a old) (side_of on_a new)
+    pub leaves : LeavesSound (side_of on_a old) (side_of on_a new)
     pub rest : new ≡ with_side on_a (side_of on_a new) old
     pub keeps : KeepsAll
     pub told_is : told ≡ mirrors.OfDisc events.Armed

@@ -1,16 +1,14 @@
 -- The states of a run of a mirror: two images, or a mirror of the discs in them. (This project's own, as all here.)
-use Rattle.std.specs.Prelude.{◌≡◌, ℕ, ◌⊎◌, if◌then◌else◌, Bool, true, false, List}
-use Rattle.model_counts.specs.Counts.{Rose}
+use Rattle.std.specs.Prelude.{◌≡◌, ℕ, ◌⊎◌, false, List}
 use Rattle.model_geometry.specs.declared.kinds.LayoutKind.TheVariants.{OneGroup}
-use Rattle.model_geometry.specs.Geometry.{Shape, IsLawful, total}
+use Rattle.model_geometry.specs.Geometry.{Shape, total}
 use Rattle.model_image.specs.Cells.{cells_of}
 use Rattle.model_image.specs.Image.{IsDiscImage, IsStoppedPress, pressed_image}
-use Rattle.model_sectors.specs.Discs.{Standing}
-use Rattle.model_drive.specs.Shown.{Shown, StandsFor}
+use Rattle.model_drive.specs.Shown.{Shown}
 use Rattle.model_drive.specs.Faults.{faults}
 use Rattle.model_drive.specs.Runs.{Loaded, IsOpenedOn}
 use Rattle.model_mirror.specs.Shown.{MirrorShown}
-use Rattle.model_mirror.specs.Standing.{MirrorStands}
+use Rattle.model_mirror.specs.Sides.{side_a, side_b}
 
 -- the bytes of two images, of which the first is side a's
 pub record TwoImages : Type 0 where
@@ -31,18 +29,6 @@ pub data PairState : Type 0 where
 abbrev pub images_of : PairState → TwoImages
 images_of (Unpaired images) = images
 images_of (Paired s) = s.images
-
--- what side a shows, whichever leads
-abbrev pub side_a : MirrorShown → Shown
-side_a shown = if shown.lead_is_a then shown.lead else shown.other
-
--- what side b shows
-abbrev pub side_b : MirrorShown → Shown
-side_b shown = if shown.lead_is_a then shown.other else shown.lead
-
--- the mirror may stand for this
-abbrev pub MayBe : MirrorShown → Standing → Type 0
-MayBe shown s = MirrorStands shown (StandsFor shown.lead) (StandsFor shown.other) s
 
 -- Both are images of discs of this geometry, with one group of spares.
 pub record AreDiscs (shape : Shape) (images : TwoImages) : Type 0 where
@@ -97,7 +83,3 @@ IsHalfPressedPair shape s (Paired t) = ⊥
 pub record NoneFailed (old new : MirrorShown) : Type 0 where
   pub a : faults (side_a new) ≡ faults (side_a old)
   pub b : faults (side_b new) ≡ faults (side_b old)
-
--- one did, and counted it
-abbrev pub OneFailed : MirrorShown → MirrorShown → Type 0
-OneFailed old new = Rose (faults (side_a old)) (faults (side_a new)) ⊎ Rose (faults (side_b old)) (faults (side_b new))

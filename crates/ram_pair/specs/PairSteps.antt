@@ -2,8 +2,8 @@
 use Rattle.std.specs.Prelude.{◌≡◌, ℕ, ◌⊎◌, Bool, true, false, Ok, Err, Option, Some, List}
 use Rattle.model_geometry.specs.declared.kinds.LayoutKind.TheVariants.{OneGroup}
 use Rattle.model_geometry.specs.Geometry.{Shape, IsLawful, shape_in, total}
-use Rattle.model_drive.specs.Shown.{Shown}
 use Rattle.model_mirror.specs.Shown.{MirrorShown}
+use Rattle.model_mirror.specs.Sides.{OneFailed, side_a, side_b}
 use Rattle.ram_image.specs.EventBytes.{FailBytes}
 use Rattle.ram_medium.specs.declared.control.FailEnd.{FailEnd}
 use Rattle.ram_report.specs.declared.printing.Event.TheVariants as events
@@ -13,10 +13,11 @@ use Rattle.ram_text.specs.MirrorScript.{MirrorReads}
 use Rattle.ram_text.specs.declared.mirror.MirrorLine.{MirrorLine}
 use Rattle.ram_text.specs.declared.mirror.MirrorLine.TheVariants as lines
 use Rattle.ram_machine.specs.declared.stopped.Stopped.TheVariants as stopped
+use Rattle.ram_machine.specs.Drive.{HasCells}
 use Rattle.ram_machine.specs.Underwent.{UnderwentEvents}
 use Rattle.ram_pair.specs.declared.told.Told.TheVariants as told
 use Rattle.ram_pair.specs.Told.{PairOutcome, answered, image_failed, fail_told}
-use Rattle.ram_pair.specs.PairStates.{Mirrored, PairState, Unpaired, Paired, IsPressedPair, IsHalfPressedPair, NoneFailed, OneFailed, side_a, side_b}
+use Rattle.ram_pair.specs.PairStates.{Mirrored, PairState, Unpaired, Paired, IsPressedPair, IsHalfPressedPair, NoneFailed}
 use Rattle.ram_pair.specs.PairLines.{CallRule}
 
 -- What became of a press of two discs of this geometry.
@@ -60,17 +61,29 @@ LineImages (lines.Cut on_a n fate) called old new = SameImages old new
 LineImages lines.Lead called old new = SameImages old new
 LineImages line called old new = BothUnderwent old new
 
+-- the bytes of both images have the cells of their sides, however the line ended
+pub record HaveCells (s : Mirrored) : Type 0 where
+  pub a : HasCells (side_a s.shown).medium.world (Some s.images.a)
+  pub b : HasCells (side_b s.shown).medium.world (Some s.images.b)
+
 -- A call of the mirror is told, unless an image failed in it: then the run ends, also where the other side went on.
 abbrev pub ComesOut : (old new : MirrorShown) → (called : MirrorEvent) → (outcome : PairOutcome) → Type 0
 ComesOut old new called outcome =
     (NoneFailed old new × (outcome ≡ answered called)) ⊎ (OneFailed old new × (outcome ≡ image_failed))
 
--- A line was done with a mirror.
+-- a block was to fail, and the image failed in that
+abbrev pub IsImageFailure : MirrorLine → MirrorEvent → Type 0
+IsImageFailure (lines.Fail on_a block) (mirrors.OfDisc events.Cut) = Unit {0}
+IsImageFailure line called = ⊥
+
+-- A line was done with a mirror. An image that fails while a block is to fail ends the run, also where its count stands at its end.
 pub record MirrorStep (s t : Mirrored) (line : MirrorLine) (payload : List ℕ) (outcome : PairOutcome) (bytes : List ℕ) : Type 0 where
   pub called : MirrorEvent
   pub rule : CallRule s.shown t.shown line payload bytes called
   pub images : LineImages line called (lying s) (lying t)
   pub ends : ComesOut s.shown t.shown called outcome
+  pub lost : IsImageFailure line called → outcome ≡ image_failed
+  pub cells : HaveCells t
 
 -- the same in any state: without a mirror the line cannot be answered
 abbrev pub OnMirror : PairState → MirrorLine → List ℕ → PairOutcome → List ℕ → PairState → Type 0

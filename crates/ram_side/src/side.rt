@@ -1,5 +1,5 @@
 //! A side of a mirror as a run works with it: a disc, what a run does to the medium below it, and whether its image failed.
-ghost use Rattle.std.specs.Prelude.{◌≡◌, ℕ, ◌≤◌, Bool, false, Option, List, MatchResult};
+ghost use Rattle.std.specs.Prelude.{◌≡◌, ℕ, ◌≤◌, Bool, true, false, Option, List, MatchResult};
 ghost use Rattle.model_geometry.specs.Geometry.{total};
 ghost use Rattle.model_sectors.specs.Discs.{Standing};
 ghost use Rattle.model_drive.specs.Faults.{faults};
@@ -7,6 +7,7 @@ ghost use Rattle.model_mirror.specs.Watching.{TracksFaults};
 ghost use Rattle.ram_image.specs.EventBytes.{FailBytes};
 ghost use Rattle.ram_image.specs.Opening.{IsRefused};
 ghost use Rattle.ram_medium.specs.Control.{WearRule, with_armed_cut};
+ghost use Rattle.ram_medium.specs.declared.control.FailEnd.TheVariants as fails;
 ghost use Rattle.ram_states.specs.Control.{KeepsMemory, FailOnDrive};
 ghost use Rattle.ram_side.specs.Side.{OpensSide, SideLaws, standing_after_fail};
 
@@ -89,7 +90,8 @@ pub trait Side: Disc {
         ensures stands { (s : Standing) → Self.stands self.old s
             → Self.stands self.new (standing_after_fail s result) }
         ensures failed { TracksFaults (faults (Self.shows self.old)) (faults (Self.shows self.new))
-            (has_failed self.old) (has_failed self.new) };
+            (has_failed self.old) (has_failed self.new) }
+        ensures lost { result ≡ fails.Failed → has_failed self.new ≡ true };
 
     /// Makes block `block` of the medium dead at its `n`-th use from now on, the next one being the first: `Set`. There
     /// is no such block: `NoBlock`. As many arms stand as can, 64: `Full`.

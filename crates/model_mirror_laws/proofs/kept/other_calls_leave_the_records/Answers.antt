@@ -3,10 +3,10 @@ use Rattle.model_mirror_laws.proofs.MirrorRecords.{read_leaves, write_leaves, fo
 use Rattle.model_mirror_laws.proofs.kept.other_calls_leave_the_records.Goals as goal
 
 pub returns-clause-read : goal.returns-clause-read
-returns-clause-read c = λ shape old new sides sides' lba n out cause. read_leaves lba n shape old new sides sides' out cause
+returns-clause-read c = λ shape old new sides lba n out cause. read_leaves lba n shape old new sides out cause
 
 pub returns-clause-write : goal.returns-clause-write
-returns-clause-write c = λ shape old new sides sides' lba n out cause. write_leaves lba n shape old new sides sides' out cause
+returns-clause-write c = λ shape old new sides lba n out cause. write_leaves lba n shape old new sides out cause
 
 pub returns-clause-format : goal.returns-clause-format
 returns-clause-format c = format_leaves

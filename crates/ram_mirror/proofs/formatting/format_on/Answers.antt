@@ -22,9 +22,9 @@ returns-in-Good-clause-cause g c = λ side.
     subst (FormatsOn (shown_by g.L.Sectors g.O.Sectors side c.args.lead.now c.args.other.now c.args.following.now) (shown_by g.L.Sectors g.O.Sectors side c.format-out.new.self c.format-told.new.self (record { on = c.args.following.now.on; up = c.is_alike-following.result; table = c.renew.new.self; who = c.args.following.now.who }))) (sym c.in-Good.is)
     (record {
       mid = shown_by g.L.Sectors g.O.Sectors side c.format-out.new.self c.args.other.now c.args.following.now;
-      lead = (c.in-Good.ensures.cause, refl);
+      lead = (record { formatted = c.in-Good.ensures.cause; leaves = record { same_shape = c.format-out.ensures.same_shape; sound = g.met.L.Sectors.laws.sound c.format-out.new.self } }, refl);
       told = c.format-told.result;
-      other = c.format-told.ensures.cause;
+      other = record { formatted = c.format-told.ensures.cause; leaves = record { same_shape = c.format-told.ensures.same_shape; sound = g.met.O.Sectors.laws.sound c.format-told.new.self } };
       new_is = ap (λ (b : Bool). record (shown_by g.L.Sectors g.O.Sectors side c.format-out.new.self c.format-told.new.self (record { on = c.args.following.now.on; up = c.is_alike-following.result; table = c.renew.new.self; who = c.args.following.now.who })) { up = b }) (c.is_alike-following.ensures ∙ ap (λ (k : ℕ). up_after_format formats.Good c.format-told.result k (block_count (g.O.Sectors.shows c.format-told.new.self))) c.blocks_of-blocks.ensures.count);
       table = (c.renew.ensures ∙ ap (λ (k : ℕ). replicate k false) c.blocks_of-blocks.ensures.count);
     })
@@ -42,7 +42,7 @@ returns-in-TooMany-clause-cause g c = λ side.
     subst (FormatsOn (shown_by g.L.Sectors g.O.Sectors side c.args.lead.now c.args.other.now c.args.following.now) (record (shown_by g.L.Sectors g.O.Sectors side c.format-out.new.self c.args.other.now c.args.following.now) { up = false })) (sym c.in-TooMany.is)
     (record {
       mid = shown_by g.L.Sectors g.O.Sectors side c.format-out.new.self c.args.other.now c.args.following.now;
-      lead = (c.in-TooMany.ensures.cause, refl);
+      lead = (record { formatted = c.in-TooMany.ensures.cause; leaves = record { same_shape = c.format-out.ensures.same_shape; sound = g.met.L.Sectors.laws.sound c.format-out.new.self } }, refl);
       ends = inr ((λ formatted. false≢true (subst (λ l. IsSome l) c.in-TooMany.ensures.cause.no_lists formatted)), refl);
     })
 
@@ -53,14 +53,14 @@ returns-in-NoUpdate-clause-cause g c = λ side.
     ∙ ap (λ (t : List Bool). record (shown_by g.L.Sectors g.O.Sectors side c.format-out.new.self c.args.other.now c.args.following.now) { on = c.after_unformatted.new.self.on; up = c.after_unformatted.new.self.up; table = t }) (ap entries_of (sym c.after_unformatted.ensures.table))
     ∙ ap (λ (w : Leading). record (shown_by g.L.Sectors g.O.Sectors side c.format-out.new.self c.args.other.now c.args.following.now) { on = c.after_unformatted.new.self.on; up = c.after_unformatted.new.self.up; table = entries_of c.after_unformatted.new.self.table; who = w }) (ap leading_of (sym c.after_unformatted.ensures.who)))
     (subst (FormatsOn (shown_by g.L.Sectors g.O.Sectors side c.args.lead.now c.args.other.now c.args.following.now) (record (shown_by g.L.Sectors g.O.Sectors side c.format-out.new.self c.args.other.now c.args.following.now) { up = c.after_unformatted.new.self.up })) (sym c.in-NoUpdate.is)
-    (unlisted_cause (shown_by g.L.Sectors g.O.Sectors side c.args.lead.now c.args.other.now c.args.following.now) (shown_by g.L.Sectors g.O.Sectors side c.format-out.new.self c.args.other.now c.args.following.now) c.after_unformatted.new.self.up c.in-NoUpdate.counter c.capacity.result refl c.in-NoUpdate.ensures.cause c.capacity.ensures.rule c.after_unformatted.ensures.up))
+    (unlisted_cause (shown_by g.L.Sectors g.O.Sectors side c.args.lead.now c.args.other.now c.args.following.now) (shown_by g.L.Sectors g.O.Sectors side c.format-out.new.self c.args.other.now c.args.following.now) c.after_unformatted.new.self.up c.in-NoUpdate.counter c.capacity.result refl (record { formatted = c.in-NoUpdate.ensures.cause; leaves = record { same_shape = c.format-out.ensures.same_shape; sound = g.met.L.Sectors.laws.sound c.format-out.new.self } }) c.capacity.ensures.rule c.after_unformatted.ensures.up))
 
 pub returns-in-Cut-clause-cause : goal.returns-in-Cut-clause-cause
 returns-in-Cut-clause-cause g c = λ side.
     subst (FormatsOn (shown_by g.L.Sectors g.O.Sectors side c.args.lead.now c.args.other.now c.args.following.now) (shown_by g.L.Sectors g.O.Sectors side c.format-out.new.self c.args.other.now c.turn_off.new.self)) (sym c.in-Cut.is)
     (record {
       mid = shown_by g.L.Sectors g.O.Sectors side c.format-out.new.self c.args.other.now c.args.following.now;
-      lead = (c.in-Cut.ensures.cause, refl);
+      lead = (record { formatted = c.in-Cut.ensures.cause; leaves = record { same_shape = c.format-out.ensures.same_shape; sound = g.met.L.Sectors.laws.sound c.format-out.new.self } }, refl);
       new_is = all_off (shown_by g.L.Sectors g.O.Sectors side c.format-out.new.self c.args.other.now c.args.following.now) c.turn_off.new.self.on c.turn_off.new.self.up (entries_of c.turn_off.new.self.table) (leading_of c.turn_off.new.self.who) c.turn_off.ensures.on c.turn_off.ensures.up (ap entries_of c.turn_off.ensures.table) (ap leading_of c.turn_off.ensures.who);
     })
 
@@ -69,7 +69,7 @@ returns-in-Fault-clause-cause g c = λ side.
     subst (FormatsOn (shown_by g.L.Sectors g.O.Sectors side c.args.lead.now c.args.other.now c.args.following.now) (shown_by g.L.Sectors g.O.Sectors side c.format-out.new.self c.args.other.now c.turn_off-in-Fault.new.self)) (sym c.in-Fault.is)
     (record {
       mid = shown_by g.L.Sectors g.O.Sectors side c.format-out.new.self c.args.other.now c.args.following.now;
-      lead = (c.in-Fault.ensures.cause, refl);
+      lead = (record { formatted = c.in-Fault.ensures.cause; leaves = record { same_shape = c.format-out.ensures.same_shape; sound = g.met.L.Sectors.laws.sound c.format-out.new.self } }, refl);
       new_is = all_off (shown_by g.L.Sectors g.O.Sectors side c.format-out.new.self c.args.other.now c.args.following.now) c.turn_off-in-Fault.new.self.on c.turn_off-in-Fault.new.self.up (entries_of c.turn_off-in-Fault.new.self.table) (leading_of c.turn_off-in-Fault.new.self.who) c.turn_off-in-Fault.ensures.on c.turn_off-in-Fault.ensures.up (ap entries_of c.turn_off-in-Fault.ensures.table) (ap leading_of c.turn_off-in-Fault.ensures.who);
     })
 

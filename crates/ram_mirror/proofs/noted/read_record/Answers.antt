@@ -8,6 +8,7 @@ pub returns-in-Good-clause-notes : goal.returns-in-Good-clause-notes
 returns-in-Good-clause-notes g c = record {
   value = record_of c.generation-out.new.best;
   cause = c.generation-out.ensures.cause;
+  leaves = record { same_shape = c.generation-out.ensures.same_shape; sound = g.met.D.Sectors.laws.sound c.generation-out.new.self };
   now_is = sym (ap (after_reading (noted_of c.args.noted.now) (record_of c.generation-out.new.best)) c.in-Good.is);
 }
 
@@ -15,6 +16,7 @@ pub returns-in-Lost-clause-notes : goal.returns-in-Lost-clause-notes
 returns-in-Lost-clause-notes g c = record {
   value = record_of c.generation-out.new.best;
   cause = c.generation-out.ensures.cause;
+  leaves = record { same_shape = c.generation-out.ensures.same_shape; sound = g.met.D.Sectors.laws.sound c.generation-out.new.self };
   now_is = sym (ap (after_reading (noted_of c.args.noted.now) (record_of c.generation-out.new.best)) c.in-Lost.is);
 }
 
@@ -22,6 +24,7 @@ pub returns-in-Cut-clause-notes : goal.returns-in-Cut-clause-notes
 returns-in-Cut-clause-notes g c = record {
   value = record_of c.generation-out.new.best;
   cause = c.generation-out.ensures.cause;
+  leaves = record { same_shape = c.generation-out.ensures.same_shape; sound = g.met.D.Sectors.laws.sound c.generation-out.new.self };
   now_is = sym (ap (after_reading (noted_of c.args.noted.now) (record_of c.generation-out.new.best)) c.in-Cut.is);
 }
 
@@ -29,6 +32,7 @@ pub returns-in-Off-clause-notes : goal.returns-in-Off-clause-notes
 returns-in-Off-clause-notes g c = record {
   value = record_of c.generation-out.new.best;
   cause = c.generation-out.ensures.cause;
+  leaves = record { same_shape = c.generation-out.ensures.same_shape; sound = g.met.D.Sectors.laws.sound c.generation-out.new.self };
   now_is = sym (ap (after_reading (noted_of c.args.noted.now) (record_of c.generation-out.new.best)) c.in-Off.is);
 }
 
@@ -36,5 +40,6 @@ pub returns-in-Fault-clause-notes : goal.returns-in-Fault-clause-notes
 returns-in-Fault-clause-notes g c = record {
   value = record_of c.generation-out.new.best;
   cause = c.generation-out.ensures.cause;
+  leaves = record { same_shape = c.generation-out.ensures.same_shape; sound = g.met.D.Sectors.laws.sound c.generation-out.new.self };
   now_is = sym (ap (after_reading (noted_of c.args.noted.now) (record_of c.generation-out.new.best)) c.in-Fault.is);
 }

@@ -1,7 +1,5 @@
 use Rattle.std.proofs.Common.{refl, sym, ◌∙◌}
-use Rattle.ram_mirror.specs.declared.mirror.Mirror.{Mirror}
-use Rattle.ram_pair.proofs.Done.{failed_first, failed_second, none_did, tracks_a, tracks_b}
-use Rattle.ram_pair.proofs.Tracked.{both_rose_a, both_rose_b, both_same}
+use Rattle.ram_pair.proofs.Done.{failed_first, failed_second, none_did}
 use Rattle.ram_pair.proofs.calling.answer_on.Goals.{then-failed-via-then-failed, then-failed-via-else-failed+then-failed-2}
 use Rattle.ram_pair.proofs.calling.answer_on.Goals as goal
 

@@ -18,6 +18,7 @@ returns-in-Power-clause-called g c =
       rule = power_called g.S.Sectors g.met.S.Sectors.laws old new c.power.result c.power.ensures.cause c.power.ensures.step;
       images = both_underwent g.S.Sectors g.S.Side.lies_in g.S.Side.has_failed g.met.S.Side.side_laws old new c.power.ensures.underwent;
       tracks = both_tracked g.S.Sectors g.S.Side.lies_in g.S.Side.has_failed g.met.S.Side.side_laws old new c.power.ensures.underwent;
+      lost = λ lost. absurd lost;
       shapes = same_shapes g.S.Sectors g.S.Side.lies_in g.S.Side.has_failed g.met.S.Side.side_laws old new c.power.ensures.underwent;
     })
 
@@ -37,6 +38,7 @@ returns-in-Format-clause-called g c =
       };
       images = both_underwent g.S.Sectors g.S.Side.lies_in g.S.Side.has_failed g.met.S.Side.side_laws old new c.format.ensures.underwent;
       tracks = both_tracked g.S.Sectors g.S.Side.lies_in g.S.Side.has_failed g.met.S.Side.side_laws old new c.format.ensures.underwent;
+      lost = λ lost. absurd lost;
       shapes = same_shapes g.S.Sectors g.S.Side.lies_in g.S.Side.has_failed g.met.S.Side.side_laws old new c.format.ensures.underwent;
     })
 
@@ -54,6 +56,7 @@ returns-in-Resync-clause-called g c =
       };
       images = both_underwent g.S.Sectors g.S.Side.lies_in g.S.Side.has_failed g.met.S.Side.side_laws old new c.resync.ensures.underwent;
       tracks = both_tracked g.S.Sectors g.S.Side.lies_in g.S.Side.has_failed g.met.S.Side.side_laws old new c.resync.ensures.underwent;
+      lost = λ lost. absurd lost;
       shapes = same_shapes g.S.Sectors g.S.Side.lies_in g.S.Side.has_failed g.met.S.Side.side_laws old new c.resync.ensures.underwent;
     })
 
@@ -65,6 +68,7 @@ returns-in-GiveLead-clause-called g c =
       rule = give_called g.S.Sectors g.met.S.Sectors.laws old new c.in-GiveLead.on_a c.give_lead.result c.give_lead.ensures.cause c.give_lead.ensures.step_a c.give_lead.ensures.step_b;
       images = both_underwent g.S.Sectors g.S.Side.lies_in g.S.Side.has_failed g.met.S.Side.side_laws old new c.give_lead.ensures.underwent;
       tracks = both_tracked g.S.Sectors g.S.Side.lies_in g.S.Side.has_failed g.met.S.Side.side_laws old new c.give_lead.ensures.underwent;
+      lost = λ lost. absurd lost;
       shapes = same_shapes g.S.Sectors g.S.Side.lies_in g.S.Side.has_failed g.met.S.Side.side_laws old new c.give_lead.ensures.underwent;
     })
 
@@ -76,6 +80,7 @@ returns-in-Read-clause-called g c =
       rule = c.read.ensures.call;
       images = both_underwent g.S.Sectors g.S.Side.lies_in g.S.Side.has_failed g.met.S.Side.side_laws old new c.read.ensures.underwent;
       tracks = both_tracked g.S.Sectors g.S.Side.lies_in g.S.Side.has_failed g.met.S.Side.side_laws old new c.read.ensures.underwent;
+      lost = λ lost. absurd lost;
       shapes = same_shapes g.S.Sectors g.S.Side.lies_in g.S.Side.has_failed g.met.S.Side.side_laws old new c.read.ensures.underwent;
     })
 
@@ -94,5 +99,6 @@ returns-in-Write-clause-called g c =
       };
       images = both_underwent g.S.Sectors g.S.Side.lies_in g.S.Side.has_failed g.met.S.Side.side_laws old new c.write.ensures.underwent;
       tracks = both_tracked g.S.Sectors g.S.Side.lies_in g.S.Side.has_failed g.met.S.Side.side_laws old new c.write.ensures.underwent;
+      lost = λ lost. absurd lost;
       shapes = same_shapes g.S.Sectors g.S.Side.lies_in g.S.Side.has_failed g.met.S.Side.side_laws old new c.write.ensures.underwent;
     })

@@ -1,11 +1,9 @@
 use Rattle.std.specs.Prelude.{◌≡◌, ℕ, List, ◌++◌, length, take, drop}
 use Rattle.std.proofs.Common.{rules, sym, ap, ◌∙◌}
 use Rattle.std.proofs.Math.Seq.{take-append_seam}
-use Rattle.model_sectors.specs.Discs.{Standing}
 use Rattle.model_drive.specs.Reads.{ReadStep}
 use Rattle.model_drive.proofs.Found.{read_found}
-use Rattle.ram_mirror.specs.Mirrors.{mirror_shows, mirror_stands}
-use Rattle.ram_pair.specs.PairLines.{ReadCall}
+use Rattle.ram_mirror.specs.Mirrors.{mirror_stands}
 use Rattle.ram_pair.proofs.Calls.{leads_on}
 use Rattle.ram_pair.proofs.calling.read.Goals as goal
 

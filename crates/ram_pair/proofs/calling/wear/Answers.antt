@@ -11,6 +11,7 @@ returns-then-on_a g c =
       rule = worn_a g.S.Sectors g.met.S.Sectors.laws mirror.a c.wear.new.self mirror.b mirror.following c.args.block c.args.n c.wear.result c.wear.ensures.rule c.wear.ensures.keeps c.wear.ensures.stands mirror.lead_is_a;
       images = record { a = c.wear.ensures.bytes; b = refl };
       tracks = record { a = tracks_wear g.S.Sectors g.met.S.Sectors.laws mirror.a c.wear.new.self c.args.block c.args.n c.wear.result (g.S.Side.has_failed mirror.a) (g.S.Side.has_failed c.wear.new.self) c.wear.ensures.rule c.wear.ensures.failed; b = tracks_none (faults (g.S.Sectors.shows mirror.b)) (g.S.Side.has_failed mirror.b) };
+      lost = λ lost. absurd lost;
       shapes = record { a = c.wear.ensures.keeps.same_shape; b = refl };
     })
 
@@ -22,5 +23,6 @@ returns-else-on_a g c =
       rule = worn_b g.S.Sectors g.met.S.Sectors.laws mirror.b wear.new.self mirror.a mirror.following c.args.block c.args.n wear.result wear.ensures.rule wear.ensures.keeps wear.ensures.stands mirror.lead_is_a;
       images = record { a = refl; b = wear.ensures.bytes };
       tracks = record { a = tracks_none (faults (g.S.Sectors.shows mirror.a)) (g.S.Side.has_failed mirror.a); b = tracks_wear g.S.Sectors g.met.S.Sectors.laws mirror.b wear.new.self c.args.block c.args.n wear.result (g.S.Side.has_failed mirror.b) (g.S.Side.has_failed wear.new.self) wear.ensures.rule wear.ensures.failed };
+      lost = λ lost. absurd lost;
       shapes = record { a = refl; b = wear.ensures.keeps.same_shape };
     })
