@@ -12,9 +12,9 @@ use Rattle.model_mirror.specs.declared.MirrorPowerOut.{MirrorPowerOut}
 use Rattle.model_mirror.specs.declared.MirrorPowerOut.TheVariants as outs
 use Rattle.model_mirror.specs.Leading.{Noted, floor_of, Raises, WritesNumber, WritesNoNumber, last_number}
 use Rattle.model_mirror.specs.Shown.{MirrorShown, turned}
-use Rattle.model_mirror.specs.Taking.{IsTaken}
+use Rattle.model_mirror.specs.Taking.{LeadIsTaken}
 use Rattle.model_mirror.specs.Giving.{IsGiven}
-use Rattle.model_mirror.specs.Powers.{NobodyLeads, Finishes, RaisesFirst, Follows, GoesOn, Leads, is_read, stays_on, still_tells}
+use Rattle.model_mirror.specs.Powers.{NobodyLeads, Finishes, RaisesFirst, OtherFollows, LeadGoesOn, Leads, was_read, stays_on, still_tells}
 
 -- a record that was made one above a number is above it
 raised_above : (old new : Shown) (was now : Noted) (above : ℕ) → Raises old new was now above records.Good → above < now.most
@@ -71,12 +71,12 @@ finishes_same late new other on powers.NotFormatted out is ends = (ap (λ (x : M
 finishes_same late new other on powers.Cut out is ends = absurd (not_unknown out is ends.out_is)
 finishes_same late new other on powers.Fault out is ends = absurd (not_unknown out is ends.out_is)
 
-follows_ahead : (mid new : MirrorShown) (lead other : Waking) (out : MirrorPowerOut) → IsOnAnswer out → Follows mid new lead other out → max 1 mid.who.other.most < mid.who.lead.most → new.who.other.most < new.who.lead.most
+follows_ahead : (mid new : MirrorShown) (lead other : Waking) (out : MirrorPowerOut) → IsOnAnswer out → OtherFollows mid new lead other out → max 1 mid.who.other.most < mid.who.lead.most → new.who.other.most < new.who.lead.most
 follows_ahead mid new lead other out is follows ahead = go (still_tells follows.late.who follows.raised) follows.ends
   where
     go : (b : Bool) → MatchBool b (Finishes follows.late new other.power (stays_on other.record && stays_on follows.raised) lead.power out) (NobodyLeads follows.late new out) → new.who.other.most < new.who.lead.most
     go true ends =
-        let few = other_few mid follows.late (is_read other.record) follows.raised follows.raises in
+        let few = other_few mid follows.late (was_read other.record) follows.raised follows.raises in
         let same = finishes_same follows.late new other.power (stays_on other.record && stays_on follows.raised) lead.power out is ends in
         let a = few.0 in
         let b = few.1 in
@@ -88,7 +88,7 @@ follows_ahead mid new lead other out is follows ahead = go (still_tells follows.
 pub leads_ahead : (mid new : MirrorShown) (lead other : Waking) (out : MirrorPowerOut) → (known : ℕ) → Leads mid new lead other out → (out ≡ outs.Ready known) ⊎ (out ≡ outs.NotFormatted) → new.who.other.most < new.who.lead.most
 leads_ahead mid new lead other out known leads is = go leads.raised leads.raises.raises leads.ends
   where
-    go : (raised : RecordOut) → Raises mid.lead leads.late.lead mid.who.lead leads.late.who.lead (max 1 mid.who.other.most) raised → GoesOn leads.late new lead other out raised → new.who.other.most < new.who.lead.most
+    go : (raised : RecordOut) → Raises mid.lead leads.late.lead mid.who.lead leads.late.who.lead (max 1 mid.who.other.most) raised → LeadGoesOn leads.late new lead other out raised → new.who.other.most < new.who.lead.most
     go records.Good raises ends =
         let above = raised_above mid.lead leads.late.lead mid.who.lead leads.late.who.lead (max 1 mid.who.other.most) raises in
         let same = ap (λ (x : MirrorShown). x.who.other.most) leads.raises.new_is in
@@ -98,7 +98,7 @@ leads_ahead mid new lead other out known leads is = go leads.raised leads.raises
     go records.Off raises ends = absurd (not_unknown out (known, is) ends.out_is)
     go records.Fault raises ends = absurd (not_fault out (known, is) ends.0)
 
-pub taken_ahead : (mid new : MirrorShown) → IsTaken mid new → new.who.other.most < new.who.lead.most
+pub taken_ahead : (mid new : MirrorShown) → LeadIsTaken mid new → new.who.other.most < new.who.lead.most
 taken_ahead mid new taken =
     let above = raised_above mid.other taken.late.other mid.who.other taken.late.who.other mid.who.lead.most taken.wrote.raises in
     let same = ap (λ (x : MirrorShown). x.who.lead.most) taken.wrote.new_is in

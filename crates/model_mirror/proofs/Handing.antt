@@ -11,7 +11,7 @@ use Rattle.model_drive.specs.Reads.{ReadStep}
 use Rattle.model_drive.specs.Writes.{WriteStep}
 use Rattle.model_mirror.specs.Table.{some_apart}
 use Rattle.model_mirror.specs.Shown.{MirrorShown, may_lead, led_by}
-use Rattle.model_mirror.specs.Taking.{IsTaken}
+use Rattle.model_mirror.specs.Taking.{LeadIsTaken}
 use Rattle.model_mirror.specs.Standing.{StandsSomehow, IsFollowed, MirrorStands}
 use Rattle.model_mirror.specs.Reads as read_causes
 use Rattle.model_mirror.specs.Writes as write_causes
@@ -67,7 +67,7 @@ module _ (new : MirrorShown) (lead other : Standing → Type 0) (down : new.up �
   alone_write shown disc lba n bytes writes.Fault on step = record { block = step.block; covered = step.covered; either = stands_off _ step.either }
 
 -- a side that took the lead has it alone, and the mirror is on
-pub taken_alone : (mid late : MirrorShown) → IsTaken mid late → (late.up ≡ false) × (late.on ≡ true)
+pub taken_alone : (mid late : MirrorShown) → LeadIsTaken mid late → (late.up ≡ false) × (late.on ≡ true)
 taken_alone mid late taken = (ap (λ (s : MirrorShown). s.up) taken.new_is, ap (λ (s : MirrorShown). s.on) taken.new_is)
 
 -- All was read, or written, by the side that had taken the lead.

@@ -13,7 +13,7 @@ use Rattle.model_drive.specs.Writes.{WriteCause, WriteStep}
 use Rattle.model_cache.specs.Falling.{LiesIn}
 use Rattle.model_mirror.specs.Table.{AreMarked, is_covered, is_covered_before}
 use Rattle.model_mirror.specs.Shown.{MirrorShown, led_by}
-use Rattle.model_mirror.specs.Taking.{IsTaken, TakeStep}
+use Rattle.model_mirror.specs.Taking.{LeadIsTaken, TakeStep}
 use Rattle.model_mirror.specs.Standing.{HasCopy, StandsSomehow, IsFollowed, MirrorStands}
 use Rattle.model_mirror.specs.Writes.{WritesSide, OtherEnds}
 use Rattle.model_mirror.specs.Writes as write_causes
@@ -160,7 +160,7 @@ module _ (lba n : ℕ) (bytes : List ℕ) (old : MirrorShown) (on : old.on ≡ t
     good_write_alone lead' down step (Off discs) stood = step (Off discs) (off_lead discs stood)
 
     -- it was stopped, and the other side takes the lead: what that makes of the disc is what the mirror makes of it
-    pub elsewhere_write : (late : MirrorShown) (lead' other₁ new_lead : Standing → Type 0) (out : WriteOut) → IsTaken mid late → TakeStep other other₁ true → StandsSomehow lead'
+    pub elsewhere_write : (late : MirrorShown) (lead' other₁ new_lead : Standing → Type 0) (out : WriteOut) → LeadIsTaken mid late → TakeStep other other₁ true → StandsSomehow lead'
         → new ≡ write_causes.after_lone_write out (led_by late new.lead) → ((s : Standing) → other₁ s → WriteStep new.lead new_lead s lba n bytes out) → (disc : List ℕ) → MirrorStands old lead other (On disc)
         → WriteStep new.lead (MirrorStands new new_lead lead') (On disc) lba n bytes out
     elsewhere_write late lead' other₁ new_lead out taken take some is step disc (_, so, followed) =

@@ -36,9 +36,9 @@ pub record WakesBoth (old new : MirrorShown) (lead other : Waking) : Type 0 wher
   }
 
 -- whether a record was read
-abbrev pub is_read : RecordOut → Bool
-is_read records.Good = true
-is_read _ = false
+abbrev pub was_read : RecordOut → Bool
+was_read records.Good = true
+was_read _ = false
 
 -- whether the other side has the greater number, or an equal one and the first name
 abbrev pub goes_before : (lead_is_a : Bool) → (lead other : ℕ) → Bool
@@ -47,7 +47,7 @@ goes_before false lead other = nat_le lead other
 
 -- whether the other side is to lead: where it is not known who leads, and both records tell
 abbrev pub is_to_lead : MirrorShown → (lead other : RecordOut) → Bool
-is_to_lead mid lead other = ((not mid.who.known && is_read lead) && is_read other)
+is_to_lead mid lead other = ((not mid.who.known && was_read lead) && was_read other)
     && goes_before mid.lead_is_a mid.who.lead.most mid.who.other.most
 
 -- Whether it can be told that the side that is named first leads, whose record was read, by what the other one's told.
@@ -116,28 +116,28 @@ still_tells who records.Lost = who.by_hand
 still_tells who _ = true
 
 -- Then the other side has at least 1, or was stopped. Where its record is lost then, only a hand tells who leads.
-pub record Follows (mid new : MirrorShown) (lead other : Waking) (out : MirrorPowerOut) : Type 0 where
+pub record OtherFollows (mid new : MirrorShown) (lead other : Waking) (out : MirrorPowerOut) : Type 0 where
   pub late : MirrorShown
   pub raised : RecordOut
-  pub raises : RaisesFirst mid late (is_read other.record) raised
+  pub raises : RaisesFirst mid late (was_read other.record) raised
   pub ends : MatchBool (still_tells late.who raised)
       (Finishes late new other.power (stays_on other.record && stays_on raised) lead.power out)
       (NobodyLeads late new out)
 
 -- how it goes on once the record of the lead was begun to be written, or is as it is to be
-abbrev pub GoesOn : (late new : MirrorShown) → (lead other : Waking) → MirrorPowerOut → RecordOut → Type 0
-GoesOn late new lead other out records.Good = Follows late new lead other out
-GoesOn late new lead other out records.Lost = NobodyLeads late new out
-GoesOn late new lead other out records.Cut = (out ≡ outs.Cut) × (new ≡ late)
-GoesOn late new lead other out records.Off = NobodyLeads late new out
-GoesOn late new lead other out records.Fault = (out ≡ outs.Fault) × (new ≡ late)
+abbrev pub LeadGoesOn : (late new : MirrorShown) → (lead other : Waking) → MirrorPowerOut → RecordOut → Type 0
+LeadGoesOn late new lead other out records.Good = OtherFollows late new lead other out
+LeadGoesOn late new lead other out records.Lost = NobodyLeads late new out
+LeadGoesOn late new lead other out records.Cut = (out ≡ outs.Cut) × (new ≡ late)
+LeadGoesOn late new lead other out records.Off = NobodyLeads late new out
+LeadGoesOn late new lead other out records.Fault = (out ≡ outs.Fault) × (new ≡ late)
 
 -- The number of the lead is at least 2, and greater than any that the record of the other side may have; else it is made so.
 pub record Leads (mid new : MirrorShown) (lead other : Waking) (out : MirrorPowerOut) : Type 0 where
   pub late : MirrorShown
   pub raised : RecordOut
   pub raises : LeadRaises mid late (floor_of mid.who.other) raised
-  pub ends : GoesOn late new lead other out raised
+  pub ends : LeadGoesOn late new lead other out raised
 
 -- How the power on ends for a side that is to lead, by what its record told.
 abbrev pub Starts : (mid new : MirrorShown) → (lead other : Waking) → MirrorPowerOut → RecordOut → Type 0

@@ -14,9 +14,9 @@ abbrev pub side_b : MirrorShown → Shown
 side_b shown = if shown.lead_is_a then shown.other else shown.lead
 
 -- what the side of this name shows
-abbrev pub side_of : (on_a : Bool) → MirrorShown → Shown
-side_of true shown = side_a shown
-side_of false shown = side_b shown
+abbrev pub named_side : (on_a : Bool) → MirrorShown → Shown
+named_side true shown = side_a shown
+named_side false shown = side_b shown
 
 -- what one side lies on failed in between, and that was counted
 abbrev pub OneFailed : MirrorShown → MirrorShown → Type 0

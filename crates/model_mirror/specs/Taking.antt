@@ -18,7 +18,7 @@ pub record OtherRaises (old new : MirrorShown) (above : ℕ) (out : RecordOut) :
   pub new_is : new ≡ record old { other = new.other; who = record old.who { other = new.who.other } }
 
 -- The other side may lead, and its record has a number above that of the lead: it leads now.
-pub record IsTaken (mid new : MirrorShown) : Type 0 where
+pub record LeadIsTaken (mid new : MirrorShown) : Type 0 where
   pub may : may_lead mid ≡ true
   pub late : MirrorShown
   pub wrote : OtherRaises mid late mid.who.lead.most outs.Good
@@ -31,15 +31,15 @@ pub record CannotTake (mid late : MirrorShown) : Type 0 where
   pub not_good : told ≢ outs.Good
 
 -- The other side may not lead, or its record could not be written: the mirror is off.
-pub record IsNotTaken (mid new : MirrorShown) : Type 0 where
+pub record LeadIsNotTaken (mid new : MirrorShown) : Type 0 where
   pub late : MirrorShown
   pub why : MatchBool (may_lead mid) (CannotTake mid late) (late ≡ mid)
   pub new_is : new ≡ mirror_turned_off late
 
 -- whether the other side took the lead from one that was stopped
 abbrev pub TakesLead : MirrorShown → MirrorShown → Bool → Type 0
-TakesLead mid new true = IsTaken mid new
-TakesLead mid new false = IsNotTaken mid new
+TakesLead mid new true = LeadIsTaken mid new
+TakesLead mid new false = LeadIsNotTaken mid new
 
 -- What it makes of what the other side stands for: nothing new, or it stands for something.
 abbrev pub TakeStep : (before after : Standing → Type 0) → Bool → Type 0

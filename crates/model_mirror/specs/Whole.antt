@@ -152,14 +152,14 @@ pub record MendsBlock (old new : MirrorShown) (i : ℕ) (out : ReadOut) : Type 0
   pub goes_on : MendGoesOn mid new i told out
 
 -- one block was gone through: it was copied if it is apart, else mended, while the other side is up
-abbrev pub GoesThrough : MirrorShown → MirrorShown → ℕ → Type 0
-GoesThrough old new i = MatchBool old.up
+abbrev pub ResyncsBlock : MirrorShown → MirrorShown → ℕ → Type 0
+ResyncsBlock old new i = MatchBool old.up
     (MatchBool (is_apart old.table i) (CopiesBlock old new i) (MendsBlock old new i reads.Good)) (new ≡ old)
 
 -- the first n blocks were, rising
-abbrev pub GoesThroughBlocks : MirrorShown → MirrorShown → ℕ → Type 0
-GoesThroughBlocks old new zero = new ≡ old
-GoesThroughBlocks old new (suc k) = (mid : MirrorShown) × GoesThroughBlocks old mid k × GoesThrough mid new k
+abbrev pub ResyncsBlocks : MirrorShown → MirrorShown → ℕ → Type 0
+ResyncsBlocks old new zero = new ≡ old
+ResyncsBlocks old new (suc k) = (mid : MirrorShown) × ResyncsBlocks old mid k × ResyncsBlock mid new k
 
 -- how many blocks are left
 abbrev pub left_of : MirrorShown → ℕ
@@ -169,7 +169,7 @@ left_of shown = if shown.up then count_apart shown.table else block_count shown.
 pub record ResyncsAll (old new : MirrorShown) (left : ℕ) : Type 0 where
   pub on : IsOn old.lead
   pub formatted : IsFormatted old.lead
-  pub through : GoesThroughBlocks old new (block_count old.lead)
+  pub through : ResyncsBlocks old new (block_count old.lead)
   pub left_is : left ≡ left_of new
 
 -- the lead was stopped in the read of a block that was to be copied, and the mirror is off
@@ -183,7 +183,7 @@ pub record ResyncStopped (old new : MirrorShown) (told : ReadOut) : Type 0 where
   pub before : ℕ
   pub early : before < block_count old.lead
   pub mid : MirrorShown
-  pub through : GoesThroughBlocks old mid before
+  pub through : ResyncsBlocks old mid before
   pub up : mid.up ≡ true
   pub stops : MatchBool (is_apart mid.table before) (CopyStopped mid new before told) (MendsBlock mid new before told)
 

@@ -13,7 +13,7 @@ use Rattle.model_mirror.specs.declared.Waking.{Waking}
 use Rattle.model_mirror.specs.Leading.{floor_of}
 use Rattle.model_mirror.specs.Shown.{MirrorShown, exchanged}
 use Rattle.model_mirror.specs.Taking.{LeadRaises}
-use Rattle.model_mirror.specs.Powers.{MirrorPowerCause, NobodyLeads, LeadStops, stop_of, Starts, Leads, GoesOn, Follows, RaisesFirst, Finishes, is_to_lead, is_read, can_tell, still_tells, stays_on, goes_before}
+use Rattle.model_mirror.specs.Powers.{MirrorPowerCause, NobodyLeads, LeadStops, stop_of, Starts, Leads, LeadGoesOn, OtherFollows, RaisesFirst, Finishes, is_to_lead, was_read, can_tell, still_tells, stays_on, goes_before}
 use Rattle.model_mirror_laws.specs.Ahead.{HoldsOfCopies, IsAhead, KeepsACopy, KnowsRecords, CopiesLast, SideIsAhead}
 use Rattle.model_mirror_laws.proofs.Numbers.{woke_copies, woke_has, raised_copies, raised_exact}
 use Rattle.model_mirror_laws.proofs.LastingCopies.{copies_woke}
@@ -58,7 +58,7 @@ module _ (new : MirrorShown) (out : MirrorPowerOut) where
     finished_roles late there on power_outs.Cut ends = (ap (λ (s : MirrorShown). s.lead) ends.new_is, ap (λ (s : MirrorShown). s.other) ends.new_is, ap (λ (s : MirrorShown). s.lead_is_a) ends.new_is)
     finished_roles late there on power_outs.Fault ends = (ap (λ (s : MirrorShown). s.lead) ends.new_is, ap (λ (s : MirrorShown). s.other) ends.new_is, ap (λ (s : MirrorShown). s.lead_is_a) ends.new_is)
 
-    followed_roles : (mid : MirrorShown) (f : Follows mid new lead other out) → SameRoles f.late
+    followed_roles : (mid : MirrorShown) (f : OtherFollows mid new lead other out) → SameRoles f.late
     followed_roles mid f = go (still_tells f.late.who f.raised) f.ends
       where
         go : (b : Bool) → MatchBool b (Finishes f.late new other.power (stays_on other.record && stays_on f.raised) lead.power out) (NobodyLeads f.late new out) → SameRoles f.late
@@ -92,12 +92,12 @@ module _ (new : MirrorShown) (out : MirrorPowerOut) where
       at_mid late same ends = record { ahead = ends.ahead; same_side = ends.same_side ∙ same }
 
       module _ (read : lead.record ≡ records.Good) (most : ahead.between < mid.who.lead.most) (can : can_tell mid.who other.record ≡ true) where
-        followed : (late : MirrorShown) → LeadRaises mid late (floor_of mid.who.other) records.Good → Follows late new lead other out → EndsAhead mid new
+        followed : (late : MirrorShown) → LeadRaises mid late (floor_of mid.who.other) records.Good → OtherFollows late new lead other out → EndsAhead mid new
         followed late raises f = record {
           ahead = ahead_by f.late.lead new.lead f.late.other new.other roles.0 roles.1 (record {
             between = floor_of mid.who.other;
             above = subst (HoldsOfCopies (λ number. floor_of mid.who.other < number)) (sym first.0) (λ value area copy. let is = exact.0 value area copy in let more = exact.1 in omega (arith, is, more));
-            below = first_few late f.late (is_read other.record) f.raised (floor_of mid.who.other) (omega arith) f.raises
+            below = first_few late f.late (was_read other.record) f.raised (floor_of mid.who.other) (omega arith) f.raises
                 (subst IsKnown (sym same_other) woken.knows.other_known)
                 (subst (HoldsOfCopies (λ number. number ≤ floor_of mid.who.other)) (sym same_other) (λ value area copy. let few = noted value area copy in omega (arith, few)));
           });
@@ -108,7 +108,7 @@ module _ (new : MirrorShown) (out : MirrorPowerOut) where
             roles = followed_roles late f
 
             first : (f.late.lead ≡ late.lead) × (f.late.lead_is_a ≡ late.lead_is_a)
-            first = first_roles late f.late (is_read other.record) f.raised f.raises
+            first = first_roles late f.late (was_read other.record) f.raised f.raises
 
             exact : HoldsOfCopies (λ number. number ≡ late.who.lead.most) late.lead × (floor_of mid.who.other < late.who.lead.most)
             exact = raised_exact mid.lead late.lead mid.who.lead late.who.lead (floor_of mid.who.other) woken.knows.lead_known raises.raises (woken.exact read)
@@ -130,7 +130,7 @@ module _ (new : MirrorShown) (out : MirrorPowerOut) where
             stays raised raises same =
                 at_mid l.late (late_side l.late raised raises) (same_ends l.late (late_ahead l.late raised read most raises) same)
 
-            go : (raised : RecordOut) → LeadRaises mid l.late (floor_of mid.who.other) raised → GoesOn l.late new lead other out raised → EndsAhead mid new
+            go : (raised : RecordOut) → LeadRaises mid l.late (floor_of mid.who.other) raised → LeadGoesOn l.late new lead other out raised → EndsAhead mid new
             go records.Good raises ends = followed l.late raises ends
             go records.Lost raises ends = nobody records.Lost raises ends
             go records.Cut raises ends = stays records.Cut raises ends.1
@@ -241,7 +241,7 @@ module _ (old new : MirrorShown) (out : MirrorPowerOut) (cause : MirrorPowerCaus
           let read = both_read cause.mid.who.known cause.lead.record cause.other.record _ e in
           let more = lead_has (λ number. was.between < number) was.above (inr copies.0) read.0 in
           let few = other_has (λ number. number ≤ was.between) was.below (inl (omega arith)) read.1 in
-          let last : goes_before cause.mid.lead_is_a cause.mid.who.lead.most cause.mid.who.other.most ≡ true = and_right ((not cause.mid.who.known && is_read cause.lead.record) && is_read cause.other.record) _ e in
+          let last : goes_before cause.mid.lead_is_a cause.mid.who.lead.most cause.mid.who.other.most ≡ true = and_right ((not cause.mid.who.known && was_read cause.lead.record) && was_read cause.other.record) _ e in
           absurd (no_room was.between cause.mid.who.lead.most cause.mid.who.other.most more few (before_more cause.mid.lead_is_a cause.mid.who.lead.most cause.mid.who.other.most last))
       go false e starts =
           let ends = starts_ends new out cause.lead cause.other cause.mid woken ahead cause.lead.record refl
@@ -272,7 +272,7 @@ module _ (old new : MirrorShown) (out : MirrorPowerOut) (cause : MirrorPowerCaus
         where
           to_lead : cause.lead.record ≡ records.Good → cause.other.record ≡ records.Good → cause.mid.who.known ≡ false → goes_before cause.mid.lead_is_a cause.mid.who.lead.most cause.mid.who.other.most ≡ true
               → is_to_lead cause.mid cause.lead.record cause.other.record ≡ true
-          to_lead one two known before = all_true _ _ _ _ (ap not known) (ap is_read one) (ap is_read two) before
+          to_lead one two known before = all_true _ _ _ _ (ap not known) (ap was_read one) (ap was_read two) before
             where
               all_true : (a b c d : Bool) → a ≡ true → b ≡ true → c ≡ true → d ≡ true → (((a && b) && c) && d) ≡ true
               all_true true true true true w x y z = refl

@@ -8,7 +8,7 @@ use Rattle.model_mirror.specs.Shown.{MirrorShown}
 use Rattle.model_mirror.specs.Leading.{Leading}
 use Rattle.model_mirror.specs.Standing.{StandsSomehow, MirrorStands, MayBe}
 use Rattle.model_mirror.proofs.Mapping.{stands_mapped}
-use Rattle.model_mirror.specs.Sides.{side_of}
+use Rattle.model_mirror.specs.Sides.{named_side}
 use Rattle.model_mirror_laws.specs.Ahead.{HoldsOfCopies, SideIsAhead, KnowsRecords}
 use Rattle.model_mirror_laws.specs.Bytes.{Ages, SidesAge, HoldsSector, KeepsSector, IsKept}
 use Rattle.model_mirror_laws.proofs.Numbers.{dying_copies}
@@ -73,26 +73,26 @@ module _ (old new : MirrorShown) (ages : SidesAge old new) where
   }
 
   -- each side, by its name
-  side_ages : (on_a : Bool) → Ages (side_of on_a old) (side_of on_a new)
+  side_ages : (on_a : Bool) → Ages (named_side on_a old) (named_side on_a new)
   side_ages true = by_name old.lead_is_a new.lead_is_a old.lead old.other new.lead new.other same_side ages.lead ages.other
   side_ages false = by_name old.lead_is_a new.lead_is_a old.other old.lead new.other new.lead same_side ages.other ages.lead
 
   ages_ahead : (on_a : Bool) → SideIsAhead on_a old → SideIsAhead on_a new
   ages_ahead on_a ahead = record {
     between = ahead.between;
-    above = ages_copies (side_of on_a old) (side_of on_a new) (side_ages on_a) (λ number. ahead.between < number) ahead.above;
-    below = ages_copies (side_of (not on_a) old) (side_of (not on_a) new) (side_ages (not on_a)) (λ number. number ≤ ahead.between) ahead.below;
+    above = ages_copies (named_side on_a old) (named_side on_a new) (side_ages on_a) (λ number. ahead.between < number) ahead.above;
+    below = ages_copies (named_side (not on_a) old) (named_side (not on_a) new) (side_ages (not on_a)) (λ number. number ≤ ahead.between) ahead.below;
   }
 
   ages_keep_by : (at : ℕ) (bytes : List ℕ) (on_a : Bool) → KeepsSector at bytes on_a old → KeepsSector at bytes on_a new
   ages_keep_by at bytes on_a keeps = record {
-    holds = ages_holds (side_of on_a old) (side_of on_a new) (side_ages on_a) at bytes keeps.holds;
+    holds = ages_holds (named_side on_a old) (named_side on_a new) (side_ages on_a) at bytes keeps.holds;
     rest = elim keeps.rest [
-      | inl both ↦ inl (ages_holds (side_of (not on_a) old) (side_of (not on_a) new) (side_ages (not on_a)) at bytes both)
+      | inl both ↦ inl (ages_holds (named_side (not on_a) old) (named_side (not on_a) new) (side_ages (not on_a)) at bytes both)
       | inr ahead ↦ inr (ages_ahead on_a ahead)
     ];
     leads = λ known. same_side ∙ keeps.leads (sym (ap (λ (l : Leading). l.known) same_who) ∙ known);
-    other = ages_somehow (side_of (not on_a) old) (side_of (not on_a) new) (side_ages (not on_a)) keeps.other;
+    other = ages_somehow (named_side (not on_a) old) (named_side (not on_a) new) (side_ages (not on_a)) keeps.other;
     shows = λ on. let shows = keeps.shows (sym same_on_off ∙ on) in record { standing = shows.standing; stands = ages_may shows.standing shows.stands; each = shows.each };
   }
 

@@ -19,8 +19,8 @@ use Rattle.model_mirror.specs.declared.Waking.{Waking}
 use Rattle.model_mirror.proofs.Somehow.{power_somehow}
 use Rattle.model_mirror.specs.Shown.{MirrorShown, exchanged}
 use Rattle.model_mirror.specs.Standing.{StandsSomehow, MayBe}
-use Rattle.model_mirror.specs.Powers.{MirrorPowerCause, NobodyLeads, LeadStops, stop_of, Starts, Leads, GoesOn, Follows, Finishes, is_to_lead, can_tell, still_tells, stays_on, MirrorPowerStep, StandsMounted, on_or_off, LeadPowerStep, of_lead}
-use Rattle.model_mirror.specs.Sides.{side_a, side_b, side_of}
+use Rattle.model_mirror.specs.Powers.{MirrorPowerCause, NobodyLeads, LeadStops, stop_of, Starts, Leads, LeadGoesOn, OtherFollows, Finishes, is_to_lead, can_tell, still_tells, stays_on, MirrorPowerStep, StandsMounted, on_or_off, LeadPowerStep, of_lead}
+use Rattle.model_mirror.specs.Sides.{side_a, side_b, named_side}
 use Rattle.model_mirror_laws.specs.Ahead.{IsAhead, KnowsRecords, CopiesLast, SideIsAhead}
 use Rattle.model_mirror_laws.specs.Bytes.{PowersSo, HasSector, AllHave, HoldsSector, ShowsSector, KeepsSector, IsKept, IsReopened, BeginsAgain}
 use Rattle.model_drive.proofs.Dying.{same_off, same_candidates}
@@ -67,7 +67,7 @@ module _ (new : MirrorShown) (out : MirrorPowerOut) (on : new.on ≡ true) where
     finishes_out late there up power_outs.Cut ends = nobody_out late ends
     finishes_out late there up power_outs.Fault ends = nobody_out late ends
 
-    follows_out : (mid : MirrorShown) → Follows mid new lead other out → IsOnOut out
+    follows_out : (mid : MirrorShown) → OtherFollows mid new lead other out → IsOnOut out
     follows_out mid f = go (still_tells f.late.who f.raised) f.ends
       where
         go : (b : Bool) → MatchBool b (Finishes f.late new other.power (stays_on other.record && stays_on f.raised) lead.power out) (NobodyLeads f.late new out) → IsOnOut out
@@ -80,7 +80,7 @@ module _ (new : MirrorShown) (out : MirrorPowerOut) (on : new.on ≡ true) where
         late_off : l.late.on ≡ false
         late_off = ap (λ (s : MirrorShown). s.on) l.raises.new_is ∙ off
 
-        go : (raised : RecordOut) → GoesOn l.late new lead other out raised → IsOnOut out
+        go : (raised : RecordOut) → LeadGoesOn l.late new lead other out raised → IsOnOut out
         go records.Good ends = follows_out l.late ends
         go records.Lost ends = nobody_out l.late ends
         go records.Cut ends = same_out l.late late_off ends.1
@@ -238,18 +238,18 @@ opened_ahead x x' y y' one two ahead = record {
 }
 
 -- by the names that the sides had, and have
-begins_by : (on_a on_b : Bool) (old new : MirrorShown) → IsReopened (side_of on_a old) (side_of on_b new) → IsReopened (side_of (not on_a) old) (side_of (not on_b) new) → new.on ≡ false → new.who.known ≡ false
+begins_by : (on_a on_b : Bool) (old new : MirrorShown) → IsReopened (named_side on_a old) (named_side on_b new) → IsReopened (named_side (not on_a) old) (named_side (not on_b) new) → new.on ≡ false → new.who.known ≡ false
     → (at : ℕ) (bytes : List ℕ) → KeepsSector at bytes on_a old → IsKept at bytes new
 begins_by on_a on_b old new one two off unknown at bytes keeps = (
   on_b,
   record {
-    holds = opened_holds (side_of on_a old) (side_of on_b new) one at bytes keeps.holds;
+    holds = opened_holds (named_side on_a old) (named_side on_b new) one at bytes keeps.holds;
     rest = elim keeps.rest [
-      | inl both ↦ inl (opened_holds (side_of (not on_a) old) (side_of (not on_b) new) two at bytes both)
-      | inr ahead ↦ inr (opened_ahead (side_of on_a old) (side_of on_b new) (side_of (not on_a) old) (side_of (not on_b) new) one two ahead)
+      | inl both ↦ inl (opened_holds (named_side (not on_a) old) (named_side (not on_b) new) two at bytes both)
+      | inr ahead ↦ inr (opened_ahead (named_side on_a old) (named_side on_b new) (named_side (not on_a) old) (named_side (not on_b) new) one two ahead)
     ];
     leads = λ known. absurd (false≢true (sym unknown ∙ known));
-    other = opened_somehow (side_of (not on_a) old) (side_of (not on_b) new) two keeps.other;
+    other = opened_somehow (named_side (not on_a) old) (named_side (not on_b) new) two keeps.other;
     shows = λ on. absurd (false≢true (sym off ∙ on));
   },
 )

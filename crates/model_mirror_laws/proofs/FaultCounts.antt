@@ -23,11 +23,11 @@ use Rattle.model_mirror.specs.declared.Waking.{Waking}
 use Rattle.model_mirror.specs.Table.{is_apart}
 use Rattle.model_mirror.specs.Leading.{Noted, floor_of, Raises, WritesNumber, WritesNoNumber, last_number}
 use Rattle.model_mirror.specs.Shown.{MirrorShown, exchanged, turned, may_lead, stands_in, mirror_turned_off, led_by}
-use Rattle.model_mirror.specs.Taking.{LeadRaises, OtherRaises, IsTaken, IsNotTaken, CannotTake}
+use Rattle.model_mirror.specs.Taking.{LeadRaises, OtherRaises, LeadIsTaken, LeadIsNotTaken, CannotTake}
 use Rattle.model_mirror.specs.Reads.{LeadReads, AsksOther, EndsPart, MirrorReadsPart, MirrorReadsParts, EndsMirrorRead, ReadsLed, ReadsElsewhere, ReadStopped, ReadsWithSides, MirrorReadCause, in_place}
 use Rattle.model_mirror.specs.Writes.{LeadWrites, WritesElsewhere, WriteStopped, WritesWithSides, MirrorWriteCause, after_lone_write}
-use Rattle.model_mirror.specs.Whole.{FormatsOn, MirrorFormatCause, WritesCopy, CopyEnds, CopyGoesOn, CopiesBlock, MendGoesOn, MendsLack, MendEnds, WritesBack, MendsBlock, once_written, GoesThrough, GoesThroughBlocks, CopyStopped, ResyncsOn, ResyncCause}
-use Rattle.model_mirror.specs.Powers.{WakesSide, NobodyLeads, LeadStops, stop_of, Follows, GoesOn, Leads, Starts, Finishes, is_to_lead, can_tell, still_tells, stays_on, MirrorPowerCause}
+use Rattle.model_mirror.specs.Whole.{FormatsOn, MirrorFormatCause, WritesCopy, CopyEnds, CopyGoesOn, CopiesBlock, MendGoesOn, MendsLack, MendEnds, WritesBack, MendsBlock, once_written, ResyncsBlock, ResyncsBlocks, CopyStopped, ResyncsOn, ResyncCause}
+use Rattle.model_mirror.specs.Powers.{WakesSide, NobodyLeads, LeadStops, stop_of, OtherFollows, LeadGoesOn, Leads, Starts, Finishes, is_to_lead, can_tell, still_tells, stays_on, MirrorPowerCause}
 use Rattle.model_mirror.specs.Giving.{IsNotGiven, GiveLeadCause, is_to_turn}
 use Rattle.model_mirror.specs.Sides.{side_a, side_b, OneFailed}
 
@@ -177,7 +177,7 @@ module _ (old new : MirrorShown) (above : ℕ) where
       (raises_less old.other new.other old.who.other new.who.other above out r.raises)
 
 -- The other side takes the lead, or does not.
-pub taken_less : (mid new : MirrorShown) → IsTaken mid new → NoLess mid new
+pub taken_less : (mid new : MirrorShown) → LeadIsTaken mid new → NoLess mid new
 taken_less mid new taken =
     less_less mid taken.late new (other_raises_less mid taken.late mid.who.lead.most records.Good taken.wrote)
     (less_less taken.late (exchanged taken.late) new (exchange_less taken.late) (roles_less (exchanged taken.late) new (ap (λ (s : MirrorShown). s.lead_is_a) taken.new_is)
@@ -186,7 +186,7 @@ taken_less mid new taken =
 off_less : (late new : MirrorShown) → new ≡ mirror_turned_off late → NoLess late new
 off_less late new e = roles_less late new (ap (λ (s : MirrorShown). s.lead_is_a) e) (same_less _ _ (ap (λ (s : MirrorShown). faults s.lead) e)) (same_less _ _ (ap (λ (s : MirrorShown). faults s.other) e))
 
-pub not_taken_less : (mid new : MirrorShown) → IsNotTaken mid new → NoLess mid new
+pub not_taken_less : (mid new : MirrorShown) → LeadIsNotTaken mid new → NoLess mid new
 not_taken_less mid new taken = less_less mid taken.late new (go (may_lead mid) taken.why) (off_less taken.late new taken.new_is)
   where
     go : (b : Bool) → MatchBool b (CannotTake mid taken.late) (taken.late ≡ mid) → NoLess mid taken.late
@@ -441,7 +441,7 @@ module _ (i : ℕ) where
       goes (reads.Range known) read none = absurd none
       goes reads.Off read none = absurd none
 
-  through_less : (old new : MirrorShown) → GoesThrough old new i → NoLess old new
+  through_less : (old new : MirrorShown) → ResyncsBlock old new i → NoLess old new
   through_less old new goes = up old.up goes
     where
       apart : (b : Bool) → MatchBool b (CopiesBlock old new i) (MendsBlock old new i reads.Good) → NoLess old new
@@ -459,7 +459,7 @@ module _ (i : ℕ) where
       go true c = failed_less mid c.late new (lead_reads_failed (16 * i) 16 mid c.late c.reads) (off_less c.late new c.new_is)
       go false m = mends_failed mid new m
 
-blocks_less : (k : ℕ) (old new : MirrorShown) → GoesThroughBlocks old new k → NoLess old new
+blocks_less : (k : ℕ) (old new : MirrorShown) → ResyncsBlocks old new k → NoLess old new
 blocks_less zero old new same = same_mirror_less old new same
 blocks_less (suc k) old new (mid, blocks, one) = less_less old mid new (blocks_less k old mid blocks) (through_less k mid new one)
 
@@ -506,7 +506,7 @@ module _ (late new : MirrorShown) where
   finishes_not there on power_outs.Cut ends = nobody_not late new ends
   finishes_not there on power_outs.Fault ends = nobody_not late new ends
 
-follows_not : (mid new : MirrorShown) (lead other : Waking) → Follows mid new lead other powers.Fault → ⊥
+follows_not : (mid new : MirrorShown) (lead other : Waking) → OtherFollows mid new lead other powers.Fault → ⊥
 follows_not mid new lead other f = go (still_tells f.late.who f.raised) f.ends
   where
     go : (b : Bool) → MatchBool b (Finishes f.late new other.power (stays_on other.record && stays_on f.raised) lead.power powers.Fault) (NobodyLeads f.late new powers.Fault) → ⊥
@@ -516,7 +516,7 @@ follows_not mid new lead other f = go (still_tells f.late.who f.raised) f.ends
 leads_failed : (mid new : MirrorShown) (lead other : Waking) → Leads mid new lead other powers.Fault → OneFailed mid new
 leads_failed mid new lead other l = go l.raised l.raises l.ends
   where
-    go : (raised : RecordOut) → LeadRaises mid l.late (floor_of mid.who.other) raised → GoesOn l.late new lead other powers.Fault raised → OneFailed mid new
+    go : (raised : RecordOut) → LeadRaises mid l.late (floor_of mid.who.other) raised → LeadGoesOn l.late new lead other powers.Fault raised → OneFailed mid new
     go records.Good raises ends = absurd (follows_not l.late new lead other ends)
     go records.Lost raises ends = absurd (nobody_not l.late new ends)
     go records.Cut raises ends = absurd (let w = ends.0 in cc)

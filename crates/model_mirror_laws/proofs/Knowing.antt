@@ -16,11 +16,11 @@ use Rattle.model_mirror.specs.declared.Resync.{Resync}
 use Rattle.model_mirror.specs.declared.Waking.{Waking}
 use Rattle.model_mirror.specs.Leading.{Noted, Leading, floor_of}
 use Rattle.model_mirror.specs.Shown.{MirrorShown, exchanged, may_lead, mirror_turned_off, forgotten}
-use Rattle.model_mirror.specs.Taking.{LeadRaises, TakesLead, IsTaken, IsNotTaken, CannotTake}
+use Rattle.model_mirror.specs.Taking.{LeadRaises, TakesLead, LeadIsTaken, LeadIsNotTaken, CannotTake}
 use Rattle.model_mirror.specs.Reads.{MirrorReadCause}
 use Rattle.model_mirror.specs.Writes.{MirrorWriteCause}
 use Rattle.model_mirror.specs.Whole.{MirrorFormatCause, ResyncCause}
-use Rattle.model_mirror.specs.Powers.{MirrorPowerCause, NobodyLeads, LeadStops, stop_of, Starts, Leads, GoesOn, Follows, RaisesFirst, Finishes, is_to_lead, is_read, can_tell, still_tells, stays_on}
+use Rattle.model_mirror.specs.Powers.{MirrorPowerCause, NobodyLeads, LeadStops, stop_of, Starts, Leads, LeadGoesOn, OtherFollows, RaisesFirst, Finishes, is_to_lead, was_read, can_tell, still_tells, stays_on}
 use Rattle.model_mirror.proofs.Ahead.{leads_ahead}
 use Rattle.model_mirror_laws.specs.Kept.{AreSides, KeepsRecords, TakesBetween, LeavesRecords}
 use Rattle.model_mirror_laws.specs.Ahead.{HoldsOfCopies, IsAhead, IsNoted, LeadsByNumber, KnowsRecords}
@@ -79,7 +79,7 @@ same_knows : (old new : MirrorShown) → new ≡ old → KnowsRecords old → Kn
 same_knows old new same knows = subst KnowsRecords (sym same) knows
 
 -- the other side took the lead
-pub taken_knows : (mid late : MirrorShown) → IsTaken mid late → KnowsLead mid → LeadsByNumber mid → KnowsLead late × LeadsByNumber late
+pub taken_knows : (mid late : MirrorShown) → LeadIsTaken mid late → KnowsLead mid → LeadsByNumber mid → KnowsLead late × LeadsByNumber late
 taken_knows mid late taken knows leads =
     let wrote = taken.wrote in
     let greater = leads.greater in
@@ -112,7 +112,7 @@ taken_knows mid late taken knows leads =
     taken_seen = raised_seen mid.other taken.late.other mid.who.other taken.late.who.other mid.who.lead.most records.Good taken.wrote.raises leads.other_seen
 
 -- or it did not
-not_taken_knows : (mid late : MirrorShown) → IsNotTaken mid late → KnowsLead mid → LeadsByNumber mid → KnowsLead late
+not_taken_knows : (mid late : MirrorShown) → LeadIsNotTaken mid late → KnowsLead mid → LeadsByNumber mid → KnowsLead late
 not_taken_knows mid late taken knows leads = go (may_lead mid) taken.why
   where
     is : late.other ≡ taken.late.other
@@ -306,12 +306,12 @@ module _ (new : MirrorShown) (lead other : Waking) (out : MirrorPowerOut) where
         seen : mid.who.other.seen ≡ true
         seen = told_seen mid.who other.record woken.knows.not_by_hand can woken.other_seen
 
-        follows : LeadRaises mid leads.late (floor_of mid.who.other) records.Good → Follows leads.late new lead other out
+        follows : LeadRaises mid leads.late (floor_of mid.who.other) records.Good → OtherFollows leads.late new lead other out
             → ((known : ℕ) → (out ≡ outs.Ready known) ⊎ (out ≡ outs.NotFormatted) → new.who.other.most < new.who.lead.most) → KnowsRecords new
         follows raises f greater = ends (still_tells f.late.who f.raised) f.ends
           where
             first : KnowsLead f.late × (f.late.who.other.seen ≡ true) × (f.late.lead ≡ leads.late.lead) × (f.late.who.lead ≡ leads.late.who.lead) × (f.late.who.known ≡ leads.late.who.known)
-            first = first_knows leads.late f.late (is_read other.record) f.raised f.raises (ap (λ (n : Noted). n.seen) (raises_who mid leads.late _ records.Good raises) ∙ seen) (raises_knows mid leads.late _ records.Good raises woken.knows)
+            first = first_knows leads.late f.late (was_read other.record) f.raised f.raises (ap (λ (n : Noted). n.seen) (raises_who mid leads.late _ records.Good raises) ∙ seen) (raises_knows mid leads.late _ records.Good raises woken.knows)
 
             exact : HoldsOfCopies (λ number. number ≡ f.late.who.lead.most) f.late.lead
             exact = subst (λ (n : Noted). HoldsOfCopies (λ number. number ≡ n.most) f.late.lead) (sym first.3) (subst (HoldsOfCopies (λ number. number ≡ leads.late.who.lead.most)) (sym first.2)
@@ -321,7 +321,7 @@ module _ (new : MirrorShown) (lead other : Waking) (out : MirrorPowerOut) where
             lead_seen = ap (λ (n : Noted). n.seen) first.3 ∙ raised_seen mid.lead leads.late.lead mid.who.lead leads.late.who.lead (floor_of mid.who.other) records.Good raises.raises (woken.lead_seen read)
 
             off : f.late.on ≡ false
-            off = first_off (is_read other.record) f.raises ∙ raises_off mid leads.late _ records.Good raises woken.off
+            off = first_off (was_read other.record) f.raises ∙ raises_off mid leads.late _ records.Good raises woken.off
               where
                 first_off : (asked : Bool) → RaisesFirst leads.late f.late asked f.raised → f.late.on ≡ leads.late.on
                 first_off true r = ap (λ (s : MirrorShown). s.on) r.new_is
@@ -331,7 +331,7 @@ module _ (new : MirrorShown) (lead other : Waking) (out : MirrorPowerOut) where
             ends true e = finishes_knows f.late other.power _ lead.power e first.0 off greater exact lead_seen first.1
             ends false nobody = nobody_knows f.late new out first.0 nobody
 
-        go : (raised : RecordOut) → LeadRaises mid leads.late (floor_of mid.who.other) raised → GoesOn leads.late new lead other out raised
+        go : (raised : RecordOut) → LeadRaises mid leads.late (floor_of mid.who.other) raised → LeadGoesOn leads.late new lead other out raised
             → ((known : ℕ) → (out ≡ outs.Ready known) ⊎ (out ≡ outs.NotFormatted) → new.who.other.most < new.who.lead.most) → KnowsRecords new
         go records.Good raises ends greater = follows raises ends greater
         go records.Lost raises ends greater = nobody_knows leads.late new out (raises_knows mid leads.late _ records.Lost raises woken.knows) ends
@@ -358,7 +358,7 @@ module _ (new : MirrorShown) (lead other : Waking) (out : MirrorPowerOut) where
   starts_knows mid records.Fault read woken starts = stops_knows mid outs.Fault woken.off woken.knows starts
 
 -- Both records were read where the other side is to lead, and who leads was not known; and its number is no less.
-pub read_good : (out : RecordOut) → is_read out ≡ true → out ≡ records.Good
+pub read_good : (out : RecordOut) → was_read out ≡ true → out ≡ records.Good
 read_good records.Good e = refl
 read_good records.Lost e = absurd (let w = e in cc)
 read_good records.Cut e = absurd (let w = e in cc)
@@ -373,10 +373,10 @@ pub and_right : (a b : Bool) → (a && b) ≡ true → b ≡ true
 and_right true b e = e
 and_right false b e = absurd (let w = e in cc)
 
-pub both_read : (known : Bool) (lead other : RecordOut) (before : Bool) → (((not known && is_read lead) && is_read other) && before) ≡ true → (lead ≡ records.Good) × (other ≡ records.Good)
+pub both_read : (known : Bool) (lead other : RecordOut) (before : Bool) → (((not known && was_read lead) && was_read other) && before) ≡ true → (lead ≡ records.Good) × (other ≡ records.Good)
 both_read known lead other before e =
-    let first = and_left ((not known && is_read lead) && is_read other) before e in
-    (read_good lead (and_right (not known) (is_read lead) (and_left (not known && is_read lead) (is_read other) first)), read_good other (and_right (not known && is_read lead) (is_read other) first))
+    let first = and_left ((not known && was_read lead) && was_read other) before e in
+    (read_good lead (and_right (not known) (was_read lead) (and_left (not known && was_read lead) (was_read other) first)), read_good other (and_right (not known && was_read lead) (was_read other) first))
 
 -- Both sides woke.
 module _ (old new : MirrorShown) (out : MirrorPowerOut) (cause : MirrorPowerCause old new out) (knows : KnowsLead old) where

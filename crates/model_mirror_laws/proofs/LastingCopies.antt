@@ -16,7 +16,7 @@ use Rattle.model_mirror.specs.declared.MirrorPowerOut.TheVariants as outs
 use Rattle.model_mirror.specs.declared.Waking.{Waking}
 use Rattle.model_mirror.specs.Leading.{Noted, Raises, WritesNumber, WritesNoNumber, numbered, last_number}
 use Rattle.model_mirror.specs.Shown.{MirrorShown, exchanged}
-use Rattle.model_mirror.specs.Powers.{NobodyLeads, LeadStops, stop_of, Follows, RaisesFirst, GoesOn, Leads, Starts, Finishes, is_to_lead, is_read, can_tell, still_tells, stays_on, MirrorPowerCause}
+use Rattle.model_mirror.specs.Powers.{NobodyLeads, LeadStops, stop_of, OtherFollows, RaisesFirst, LeadGoesOn, Leads, Starts, Finishes, is_to_lead, was_read, can_tell, still_tells, stays_on, MirrorPowerCause}
 use Rattle.model_mirror.specs.Sides.{side_a, side_b}
 use Rattle.model_mirror_laws.specs.Ahead.{KeepsACopy, CopiesLast}
 
@@ -107,8 +107,8 @@ module _ (new : MirrorShown) (out : MirrorPowerOut) where
         (raised_dead mid.other late.other mid.who.other late.who.other 0 raised r.raises)
     first_stays mid late false raised r = same_stays mid late r.0
 
-    followed_stay : (mid : MirrorShown) → Follows mid new lead other out → BothStay mid new
-    followed_stay mid f = then_stay mid f.late new (first_stays mid f.late (is_read other.record) f.raised f.raises) (go (still_tells f.late.who f.raised) f.ends)
+    followed_stay : (mid : MirrorShown) → OtherFollows mid new lead other out → BothStay mid new
+    followed_stay mid f = then_stay mid f.late new (first_stays mid f.late (was_read other.record) f.raised f.raises) (go (still_tells f.late.who f.raised) f.ends)
       where
         go : (b : Bool) → MatchBool b (Finishes f.late new other.power (stays_on other.record && stays_on f.raised) lead.power out) (NobodyLeads f.late new out) → BothStay f.late new
         go true ends = finished_stay f.late other.power _ lead.power ends
@@ -121,7 +121,7 @@ module _ (new : MirrorShown) (out : MirrorPowerOut) where
         raised = roles_stay mid l.late (ap (λ (s : MirrorShown). s.lead_is_a) l.raises.new_is) (raised_dead mid.lead l.late.lead mid.who.lead l.late.who.lead _ l.raised l.raises.raises)
             (same_dead mid.other l.late.other (ap (λ (s : MirrorShown). s.other) l.raises.new_is))
 
-        go : (raised : RecordOut) → GoesOn l.late new lead other out raised → BothStay l.late new
+        go : (raised : RecordOut) → LeadGoesOn l.late new lead other out raised → BothStay l.late new
         go records.Good ends = followed_stay l.late ends
         go records.Lost ends = nobody_stays l.late ends
         go records.Cut ends = same_stays l.late new ends.1

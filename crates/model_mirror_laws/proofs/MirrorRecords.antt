@@ -16,10 +16,10 @@ use Rattle.model_mirror.specs.declared.Resync.TheVariants as resyncs
 use Rattle.model_mirror.specs.Table.{is_apart}
 use Rattle.model_mirror.specs.Leading.{Noted, Raises, WritesNumber, WritesNoNumber, last_number}
 use Rattle.model_mirror.specs.Shown.{MirrorShown, stands_in, mirror_turned_off, led_by}
-use Rattle.model_mirror.specs.Taking.{IsTaken}
+use Rattle.model_mirror.specs.Taking.{LeadIsTaken}
 use Rattle.model_mirror.specs.Reads.{LeadReads, AsksOther, EndsPart, MirrorReadsPart, MirrorReadsParts, EndsMirrorRead, ReadsLed, ReadsElsewhere, ReadStopped, ReadsWithSides, MirrorReadCause, after_lone_read}
 use Rattle.model_mirror.specs.Writes.{LeadWrites, OtherEnds, OtherWrites, WritesBoth, LeadRefuses, WritesLed, WritesElsewhere, WriteStopped, WritesWithSides, MirrorWriteCause, after_lone_write}
-use Rattle.model_mirror.specs.Whole.{LeadFormats, FormatsBoth, FormatsLead, FormatStopped, FormatsOn, MirrorFormatCause, WritesCopy, CopyEnds, CopyGoesOn, CopiesBlock, WritesBack, MendEnds, MendsLack, MendGoesOn, MendsBlock, GoesThrough, GoesThroughBlocks, CopyStopped, ResyncStopped, ResyncsOn, ResyncCause}
+use Rattle.model_mirror.specs.Whole.{LeadFormats, FormatsBoth, FormatsLead, FormatStopped, FormatsOn, MirrorFormatCause, WritesCopy, CopyEnds, CopyGoesOn, CopiesBlock, WritesBack, MendEnds, MendsLack, MendGoesOn, MendsBlock, ResyncsBlock, ResyncsBlocks, CopyStopped, ResyncStopped, ResyncsOn, ResyncCause}
 use Rattle.model_mirror_laws.specs.Kept.{AreSides, KeepsRecord, KeepsRecords, LeavesRecords}
 use Rattle.model_mirror_laws.proofs.SideRecords.{HasValid, sound_valid, record_same, record_then, reads_side, writes_side, formats_side}
 
@@ -99,7 +99,7 @@ raised_valid old new was now above out raises valid = go (nat_lt above was.most)
     go true p = valid_same old new p.0.same valid
     go false p = inner (nat_lt above last_number) p
 
-taken_valid : (mid late : MirrorShown) → IsTaken mid late → HasValid mid.other → HasValid late.lead
+taken_valid : (mid late : MirrorShown) → LeadIsTaken mid late → HasValid mid.other → HasValid late.lead
 taken_valid mid late taken valid = valid_same taken.late.other late.lead (ap (λ (s : MirrorShown). s.lead) taken.new_is)
     (raised_valid mid.other taken.late.other mid.who.other taken.late.who.other mid.who.lead.most records.Good taken.wrote.raises valid)
 
@@ -414,7 +414,7 @@ module _ (i : ℕ) where
       goes (reads.Range known) none = absurd none
       goes reads.Off none = absurd none
 
-  through_stays : (old new : MirrorShown) → AreValidSides old → GoesThrough old new i → Stays old new
+  through_stays : (old new : MirrorShown) → AreValidSides old → ResyncsBlock old new i → Stays old new
   through_stays old new valid goes = up old.up goes
     where
       apart : (b : Bool) → MatchBool b (CopiesBlock old new i) (MendsBlock old new i reads.Good) → Stays old new
@@ -435,7 +435,7 @@ module _ (i : ℕ) where
       go true c = copy c
       go false m = mends_stay mid new told valid m
 
-blocks_stay : (k : ℕ) (old new : MirrorShown) → AreValidSides old → GoesThroughBlocks old new k → Stays old new
+blocks_stay : (k : ℕ) (old new : MirrorShown) → AreValidSides old → ResyncsBlocks old new k → Stays old new
 blocks_stay zero old new valid same = same_stays old new valid same
 blocks_stay (suc k) old new valid (mid, blocks, one) =
     let first = blocks_stay k old mid valid blocks in

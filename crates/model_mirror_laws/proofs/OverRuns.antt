@@ -14,7 +14,7 @@ use Rattle.model_cache.specs.Falling.{LiesIn}
 use Rattle.model_mirror.specs.Shown.{MirrorShown}
 use Rattle.model_mirror.specs.Writes.{WritesWithSides, MirrorWriteCause}
 use Rattle.model_mirror.proofs.WriteSteps.{lies_in_range}
-use Rattle.model_mirror.specs.Sides.{side_of, side_a, side_b}
+use Rattle.model_mirror.specs.Sides.{named_side, side_a, side_b}
 use Rattle.model_mirror.specs.Standing.{MayBe}
 use Rattle.model_mirror_laws.specs.Kept.{AreSides}
 use Rattle.model_mirror_laws.specs.Ahead.{IsAhead, KnowsRecords}
@@ -73,11 +73,11 @@ begins_know turned old new begins knows =
     was : IsKnown (side_a old) × IsKnown (side_b old)
     was = by_known IsKnown old.lead_is_a old.lead old.other knows.lead_known knows.other_known
 
-    a_known : (turned : Bool) → (side_a new).medium.world.known ≡ (side_of (not turned) old).medium.world.known → IsKnown (side_a new)
+    a_known : (turned : Bool) → (side_a new).medium.world.known ≡ (named_side (not turned) old).medium.world.known → IsKnown (side_a new)
     a_known true same = same ∙ was.1
     a_known false same = same ∙ was.0
 
-    b_known : (turned : Bool) → (side_b new).medium.world.known ≡ (side_of turned old).medium.world.known → IsKnown (side_b new)
+    b_known : (turned : Bool) → (side_b new).medium.world.known ≡ (named_side turned old).medium.world.known → IsKnown (side_b new)
     b_known true same = same ∙ was.0
     b_known false same = same ∙ was.1
 
@@ -93,11 +93,11 @@ begins_sides shape turned old new begins sides =
     was : IsSide shape (side_a old) × IsSide shape (side_b old)
     was = by_known (IsSide shape) old.lead_is_a old.lead old.other (lead_is shape old sides) (other_is shape old sides)
 
-    a_side : (turned : Bool) → IsReopened (side_of (not turned) old) (side_a new) → IsSide shape (side_a new)
+    a_side : (turned : Bool) → IsReopened (named_side (not turned) old) (side_a new) → IsSide shape (side_a new)
     a_side true opened = side_left shape (side_b old) (side_a new) opened.leaves was.1
     a_side false opened = side_left shape (side_a old) (side_a new) opened.leaves was.0
 
-    b_side : (turned : Bool) → IsReopened (side_of turned old) (side_b new) → IsSide shape (side_b new)
+    b_side : (turned : Bool) → IsReopened (named_side turned old) (side_b new) → IsSide shape (side_b new)
     b_side true opened = side_left shape (side_a old) (side_b new) opened.leaves was.0
     b_side false opened = side_left shape (side_b old) (side_b new) opened.leaves was.1
 

@@ -25,11 +25,11 @@ use Rattle.model_mirror.specs.declared.Waking.{Waking}
 use Rattle.model_mirror.specs.Table.{is_apart}
 use Rattle.model_mirror.specs.Leading.{Noted, Raises, WritesNumber, WritesNoNumber, last_number}
 use Rattle.model_mirror.specs.Shown.{MirrorShown, exchanged, turned, may_lead, stands_in, mirror_turned_off, led_by}
-use Rattle.model_mirror.specs.Taking.{LeadRaises, OtherRaises, IsTaken, IsNotTaken, CannotTake}
+use Rattle.model_mirror.specs.Taking.{LeadRaises, OtherRaises, LeadIsTaken, LeadIsNotTaken, CannotTake}
 use Rattle.model_mirror.specs.Reads.{LeadReads, AsksOther, EndsPart, MirrorReadsPart, MirrorReadsParts, EndsMirrorRead, ReadsLed, ReadsElsewhere, ReadsWithSides, MirrorReadCause, after_lone_read}
 use Rattle.model_mirror.specs.Writes.{LeadWrites, OtherEnds, OtherWrites, WritesBoth, LeadRefuses, WritesLed, WritesElsewhere, WritesWithSides, MirrorWriteCause, after_lone_write}
-use Rattle.model_mirror.specs.Whole.{LeadFormats, FormatsBoth, FormatsLead, FormatStopped, FormatsOn, MirrorFormatCause, WritesCopy, CopyEnds, CopyGoesOn, CopiesBlock, WritesBack, MendEnds, MendsLack, MendGoesOn, MendsBlock, GoesThrough, GoesThroughBlocks, CopyStopped, ResyncStopped, ResyncsOn, ResyncCause}
-use Rattle.model_mirror.specs.Powers.{WakesSide, NobodyLeads, LeadStops, stop_of, Follows, RaisesFirst, GoesOn, Leads, Starts, Finishes, is_to_lead, is_read, can_tell, still_tells, stays_on, MirrorPowerCause}
+use Rattle.model_mirror.specs.Whole.{LeadFormats, FormatsBoth, FormatsLead, FormatStopped, FormatsOn, MirrorFormatCause, WritesCopy, CopyEnds, CopyGoesOn, CopiesBlock, WritesBack, MendEnds, MendsLack, MendGoesOn, MendsBlock, ResyncsBlock, ResyncsBlocks, CopyStopped, ResyncStopped, ResyncsOn, ResyncCause}
+use Rattle.model_mirror.specs.Powers.{WakesSide, NobodyLeads, LeadStops, stop_of, OtherFollows, RaisesFirst, LeadGoesOn, Leads, Starts, Finishes, is_to_lead, was_read, can_tell, still_tells, stays_on, MirrorPowerCause}
 use Rattle.model_mirror.specs.Giving.{IsNotGiven, Gives, GiveLeadCause, is_to_turn}
 use Rattle.model_mirror_laws.specs.Kept.{AreSides}
 
@@ -104,11 +104,11 @@ module _ (shape : Shape) where
     other_raised r = both_are y (side_same x.lead y.lead (ap (λ (s : MirrorShown). s.lead) r.new_is) (lead_is x sides)) (raised_side x.other y.other x.who.other y.who.other above out r.raises (other_is x sides))
 
   -- The other side takes the lead, or does not.
-  taken_sides : (mid new : MirrorShown) → IsTaken mid new → AreSides shape mid → AreSides shape new
+  taken_sides : (mid new : MirrorShown) → LeadIsTaken mid new → AreSides shape mid → AreSides shape new
   taken_sides mid new taken sides = neither (exchanged taken.late) new (exchanged_sides taken.late (other_raised mid taken.late mid.who.lead.most records.Good sides taken.wrote))
       (ap (λ (s : MirrorShown). s.lead) taken.new_is) (ap (λ (s : MirrorShown). s.other) taken.new_is)
 
-  not_taken_sides : (mid new : MirrorShown) → IsNotTaken mid new → AreSides shape mid → AreSides shape new
+  not_taken_sides : (mid new : MirrorShown) → LeadIsNotTaken mid new → AreSides shape mid → AreSides shape new
   not_taken_sides mid new taken sides = mirror_off taken.late new (go (may_lead mid) taken.why) taken.new_is
     where
       go : (b : Bool) → MatchBool b (CannotTake mid taken.late) (taken.late ≡ mid) → AreSides shape taken.late
@@ -341,7 +341,7 @@ module _ (shape : Shape) where
         goes (reads.Range known) none = absurd none
         goes reads.Off none = absurd none
 
-    through_sides : (old new : MirrorShown) → AreSides shape old → GoesThrough old new i → AreSides shape new
+    through_sides : (old new : MirrorShown) → AreSides shape old → ResyncsBlock old new i → AreSides shape new
     through_sides old new sides goes = up old.up goes
       where
         apart : (b : Bool) → MatchBool b (CopiesBlock old new i) (MendsBlock old new i reads.Good) → AreSides shape new
@@ -359,7 +359,7 @@ module _ (shape : Shape) where
         go true c = mirror_off c.late new (lead_read mid c.late sides (16 * i) 16 told c.reads) c.new_is
         go false m = mended_sides mid new told sides m
 
-  blocks_sides : (k : ℕ) (old new : MirrorShown) → AreSides shape old → GoesThroughBlocks old new k → AreSides shape new
+  blocks_sides : (k : ℕ) (old new : MirrorShown) → AreSides shape old → ResyncsBlocks old new k → AreSides shape new
   blocks_sides zero old new sides same = mirror_same old new sides same
   blocks_sides (suc k) old new sides (mid, blocks, one) = through_sides k mid new (blocks_sides k old mid sides blocks) one
 
@@ -424,11 +424,11 @@ module _ (shape : Shape) where
       first_sides mid late true raised sides r = other_raised mid late 0 raised sides r
       first_sides mid late false raised sides r = mirror_same mid late sides r.0
 
-      followed_sides : (mid : MirrorShown) → AreSides shape mid → Follows mid new lead other out → AreSides shape new
+      followed_sides : (mid : MirrorShown) → AreSides shape mid → OtherFollows mid new lead other out → AreSides shape new
       followed_sides mid sides f = go (still_tells f.late.who f.raised) f.ends
         where
           lates : AreSides shape f.late
-          lates = first_sides mid f.late (is_read other.record) f.raised sides f.raises
+          lates = first_sides mid f.late (was_read other.record) f.raised sides f.raises
 
           go : (b : Bool) → MatchBool b (Finishes f.late new other.power (stays_on other.record && stays_on f.raised) lead.power out) (NobodyLeads f.late new out) → AreSides shape new
           go true ends = finished_sides f.late other.power _ lead.power lates ends
@@ -440,7 +440,7 @@ module _ (shape : Shape) where
           lates : AreSides shape l.late
           lates = lead_raised mid l.late _ l.raised sides l.raises
 
-          go : (raised : RecordOut) → GoesOn l.late new lead other out raised → AreSides shape new
+          go : (raised : RecordOut) → LeadGoesOn l.late new lead other out raised → AreSides shape new
           go records.Good ends = followed_sides l.late lates ends
           go records.Lost ends = nobody_sides l.late lates ends
           go records.Cut ends = mirror_same l.late new lates ends.1

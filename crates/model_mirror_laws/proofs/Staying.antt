@@ -28,17 +28,17 @@ use Rattle.model_drive.specs.declared.FormatOut.TheVariants as formats
 use Rattle.model_drive.specs.declared.Kind.TheVariants as kinds
 use Rattle.model_drive.specs.Formats.{FormatStep}
 use Rattle.model_drive.specs.FullFormats.{FullStep}
-use Rattle.model_mirror_laws.specs.Runs.{IsRefused}
+use Rattle.model_mirror_laws.specs.Runs.{IsRefusedFormat}
 use Rattle.model_drive.specs.Writes.{WriteCause, WriteStep}
 use Rattle.model_drive.proofs.RecordSteps.{lead_step}
 use Rattle.model_cache.specs.Falling.{LiesIn}
 use Rattle.model_mirror.specs.Leading.{WritesNumber, WritesNoNumber, numbered, last_number}
 use Rattle.model_mirror.specs.Shown.{may_lead}
-use Rattle.model_mirror.specs.Taking.{IsTaken, IsNotTaken, CannotTake}
+use Rattle.model_mirror.specs.Taking.{LeadIsTaken, LeadIsNotTaken, CannotTake}
 use Rattle.model_mirror.specs.Writes.{WritesLed, WritesElsewhere, WriteStopped, WritesWithSides, MirrorWriteCause, write_is_stopped}
 use Rattle.model_mirror.proofs.Handing.{takes_the_lead}
 use Rattle.model_mirror.proofs.WriteSteps.{lies_in_range}
-use Rattle.model_mirror.specs.Sides.{side_of}
+use Rattle.model_mirror.specs.Sides.{named_side}
 use Rattle.model_mirror_laws.specs.Kept.{AreSides, KeepsRecords}
 use Rattle.model_mirror_laws.specs.Ahead.{HoldsOfCopies, IsAhead, KnowsRecords, SideIsAhead}
 use Rattle.model_mirror_laws.specs.Bytes.{ComesSo, HasSector, AllHave, HoldsSector, IsKept}
@@ -47,11 +47,11 @@ use Rattle.model_mirror_laws.proofs.MirrorRecords.{resync_leaves, format_leaves,
 use Rattle.model_mirror_laws.proofs.Knowing.{on_ahead, numbers_ahead, knows_lead, kept_lead, kept_leads, taken_knows}
 
 -- what is said of the side that leads, and of the other one, by their names
-side_by : (P : Shown → Type 0) (on_a : Bool) (shown : MirrorShown) → shown.lead_is_a ≡ on_a → P shown.lead → P (side_of on_a shown)
+side_by : (P : Shown → Type 0) (on_a : Bool) (shown : MirrorShown) → shown.lead_is_a ≡ on_a → P shown.lead → P (named_side on_a shown)
 side_by P true shown e has = subst (λ (b : Bool). P (if b then shown.lead else shown.other)) (sym e) has
 side_by P false shown e has = subst (λ (b : Bool). P (if b then shown.other else shown.lead)) (sym e) has
 
-other_by : (P : Shown → Type 0) (on_a : Bool) (shown : MirrorShown) → shown.lead_is_a ≡ on_a → P shown.other → P (side_of (not on_a) shown)
+other_by : (P : Shown → Type 0) (on_a : Bool) (shown : MirrorShown) → shown.lead_is_a ≡ on_a → P shown.other → P (named_side (not on_a) shown)
 other_by P true shown e has = subst (λ (b : Bool). P (if b then shown.other else shown.lead)) (sym e) has
 other_by P false shown e has = subst (λ (b : Bool). P (if b then shown.lead else shown.other)) (sym e) has
 
@@ -123,7 +123,7 @@ module _ (at : ℕ) (bytes : List ℕ) where
 
 -- A format that was refused.
 module _ (at : ℕ) (bytes : List ℕ) where
-  full_all : (old new : Shown) (disc : List ℕ) (t : Standing) (out : FormatOut) → IsRefused out → AllHave at bytes (On disc) → FullStep old new (λ x. x ≡ t) disc out → AllHave at bytes t
+  full_all : (old new : Shown) (disc : List ℕ) (t : Standing) (out : FormatOut) → IsRefusedFormat out → AllHave at bytes (On disc) → FullStep old new (λ x. x ≡ t) disc out → AllHave at bytes t
   full_all old new disc t formats.Good refused each step = absurd refused
   full_all old new disc t (formats.TooMany found) refused each step = subst (AllHave at bytes) step (inl refl, tt)
   full_all old new disc t (formats.NoUpdate counter) refused each step = elim step [ inl kept ↦ subst (AllHave at bytes) kept.1 each | inr lost ↦ subst (AllHave at bytes) lost.1 (inl refl, tt) ]
@@ -131,7 +131,7 @@ module _ (at : ℕ) (bytes : List ℕ) where
   full_all old new disc t formats.Off refused each step = absurd step
   full_all old new disc t formats.Fault refused each step = absurd refused
 
-  format_all : (old new : Shown) (s t : Standing) (out : FormatOut) → IsRefused out → AllHave at bytes s → FormatStep old new (λ x. x ≡ t) s (kinds.Full true) out → AllHave at bytes t
+  format_all : (old new : Shown) (s t : Standing) (out : FormatOut) → IsRefusedFormat out → AllHave at bytes s → FormatStep old new (λ x. x ≡ t) s (kinds.Full true) out → AllHave at bytes t
   format_all old new (On disc) t out refused each step = full_all old new disc t out refused each step
   format_all old new (Off discs) t formats.Good refused each step = absurd step
   format_all old new (Off discs) t (formats.TooMany found) refused each step = absurd step
@@ -140,7 +140,7 @@ module _ (at : ℕ) (bytes : List ℕ) where
   format_all old new (Off discs) t formats.Off refused each step = subst (AllHave at bytes) step each
   format_all old new (Off discs) t formats.Fault refused each step = absurd step
 
-  pub format_keeps : (old new : MirrorShown) (out : FormatOut) → IsRefused out → MirrorFormatCause old new out
+  pub format_keeps : (old new : MirrorShown) (out : FormatOut) → IsRefusedFormat out → MirrorFormatCause old new out
       → ComesSo old new (λ s t. FormatStep old.lead new.lead (λ x. x ≡ t) s (kinds.Full true) out) → KnowsRecords old → IsKept at bytes old → IsKept at bytes new
   format_keeps old new out refused cause comes knows kept = by_on at bytes old new kept _ _ (λ _ on. go on) old.on refl cause
     where
@@ -189,7 +189,7 @@ module _ (at : ℕ) (bytes : List ℕ) (mid new : MirrorShown) (ahead : IsAhead 
   wrote_rest late value records.Fault known one same held not_good cause =
       inl (record { standing = Off (held.disc ∷ []); stands = lead_step (record mid.other { buffer = held.buffer }) late.other same value (On held.disc) records.Fault (stopped_with mid.other late.other value stops.Fault held.buffer cause) held.stands; each = (held.has, tt) })
 
-  pub not_taken_rest : IsNotTaken mid new → IsKnown mid.other → (may_lead mid ≡ true → HoldsWith at bytes mid) → Rest new
+  pub not_taken_rest : LeadIsNotTaken mid new → IsKnown mid.other → (may_lead mid ≡ true → HoldsWith at bytes mid) → Rest new
   not_taken_rest taken known held = from_late (go (may_lead mid) refl taken.why)
     where
       at_lead : new.lead ≡ taken.late.lead
@@ -303,7 +303,7 @@ module _ (lba n : ℕ) (payload : List ℕ) (whole : length payload ≡ 2048 * n
   -- The records after a write: the lead is ahead, or the other side holds what it held.
   module _ (shape : Shape) (old new : MirrorShown) (sides : AreSides shape old) (knows : KnowsRecords old) (on : old.on ≡ true) where
     -- the other side took the lead in between
-    taken_ahead : (mid late : MirrorShown) → KeepsRecords old mid → IsTaken mid late → KeepsRecords late new → IsAhead new.lead new.other
+    taken_ahead : (mid late : MirrorShown) → KeepsRecords old mid → LeadIsTaken mid late → KeepsRecords late new → IsAhead new.lead new.other
     taken_ahead mid late before taken after =
         let leads = taken_knows mid late taken (kept_lead old mid before (knows_lead old knows)) (kept_leads old mid before (knows.leads on)) in
         kept_ahead late new after (numbers_ahead late leads.0.noted leads.1)

@@ -7,7 +7,7 @@ use Rattle.model_copies.specs.Copies.{HasCopy}
 use Rattle.model_drive.specs.Shown.{Shown, IsKnown, cells_in}
 use Rattle.model_mirror.specs.Leading.{Noted}
 use Rattle.model_mirror.specs.Shown.{MirrorShown}
-use Rattle.model_mirror.specs.Sides.{side_a, side_b, side_of}
+use Rattle.model_mirror.specs.Sides.{side_a, side_b, named_side}
 
 -- this holds of the number of each copy of the record of a side that can be read
 abbrev pub HoldsOfCopies : (ℕ → Type 0) → Shown → Type 0
@@ -54,4 +54,4 @@ pub record CopiesLast (old new : MirrorShown) : Type 0 where
 
 -- The record of the side of this name is ahead of the other one's.
 abbrev pub SideIsAhead : (on_a : Bool) → MirrorShown → Type 0
-SideIsAhead on_a shown = IsAhead (side_of on_a shown) (side_of (not on_a) shown)
+SideIsAhead on_a shown = IsAhead (named_side on_a shown) (named_side (not on_a) shown)

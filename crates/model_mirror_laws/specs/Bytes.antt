@@ -9,7 +9,7 @@ use Rattle.model_mirror.specs.declared.MirrorPowerOut.{MirrorPowerOut}
 use Rattle.model_mirror.specs.Shown.{MirrorShown}
 use Rattle.model_mirror.specs.Standing.{StandsSomehow, MayBe}
 use Rattle.model_mirror.specs.Powers.{MirrorPowerStep}
-use Rattle.model_mirror.specs.Sides.{side_a, side_b, side_of}
+use Rattle.model_mirror.specs.Sides.{side_a, side_b, named_side}
 use Rattle.model_mirror_laws.specs.Ahead.{SideIsAhead}
 
 -- From each thing that a mirror may stand for before a call, the call comes so to one that it may stand for then.
@@ -45,10 +45,10 @@ module _ (at : ℕ) (bytes : List ℕ) where
   -- The side of this name keeps the sector: it holds it, and leads where it is known who leads; and the other side holds it as well, or
   -- its record is behind. So whichever leads in another run has the sector.
   pub record KeepsSector (on_a : Bool) (shown : MirrorShown) : Type 0 where
-    pub holds : HoldsSector (side_of on_a shown)
-    pub rest : HoldsSector (side_of (not on_a) shown) ⊎ SideIsAhead on_a shown
+    pub holds : HoldsSector (named_side on_a shown)
+    pub rest : HoldsSector (named_side (not on_a) shown) ⊎ SideIsAhead on_a shown
     pub leads : shown.who.known ≡ true → shown.lead_is_a ≡ on_a
-    pub other : StandsSomehow (StandsFor (side_of (not on_a) shown))
+    pub other : StandsSomehow (StandsFor (named_side (not on_a) shown))
     pub shows : shown.on ≡ true → ShowsSector shown
 
   -- some side does
@@ -79,8 +79,8 @@ pub record IsReopened (old new : Shown) : Type 0 where
 
 -- Another run begins over the images of a mirror, in the order in which they were or in the other one.
 pub record BeginsAgain (turned : Bool) (old new : MirrorShown) : Type 0 where
-  pub a : IsReopened (side_of (not turned) old) (side_a new)
-  pub b : IsReopened (side_of turned old) (side_b new)
+  pub a : IsReopened (named_side (not turned) old) (side_a new)
+  pub b : IsReopened (named_side turned old) (side_b new)
   pub off : new.on ≡ false
   pub unknown : new.who.known ≡ false
   pub not_by_hand : new.who.by_hand ≡ false

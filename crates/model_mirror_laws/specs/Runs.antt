@@ -21,13 +21,13 @@ use Rattle.model_mirror_laws.specs.Ahead.{CopiesLast}
 use Rattle.model_mirror_laws.specs.Bytes.{ComesSo, PowersSo, SidesAge, BeginsAgain}
 
 -- A format that was refused: it left the disc, or none. One that was good or stopped may leave zeros.
-abbrev pub IsRefused : FormatOut → Type 0
-IsRefused outs.Good = ⊥
-IsRefused (outs.TooMany found) = Unit {0}
-IsRefused (outs.NoUpdate counter) = Unit {0}
-IsRefused outs.Cut = ⊥
-IsRefused outs.Off = Unit {0}
-IsRefused outs.Fault = ⊥
+abbrev pub IsRefusedFormat : FormatOut → Type 0
+IsRefusedFormat outs.Good = ⊥
+IsRefusedFormat (outs.TooMany found) = Unit {0}
+IsRefusedFormat (outs.NoUpdate counter) = Unit {0}
+IsRefusedFormat outs.Cut = ⊥
+IsRefusedFormat outs.Off = Unit {0}
+IsRefusedFormat outs.Fault = ⊥
 
 module _ (old new : MirrorShown) where
   -- the power of both sides went off and on again, and of each record a copy that could be read is not dead
@@ -66,7 +66,7 @@ module _ (old new : MirrorShown) where
   -- a format was refused
   pub record RefusesFormat : Type 0 where
     pub out : FormatOut
-    pub refused : IsRefused out
+    pub refused : IsRefusedFormat out
     pub cause : MirrorFormatCause old new out
     pub so : ComesSo old new (λ s t. FormatStep old.lead new.lead (λ x. x ≡ t) s (kinds.Full true) out)
 

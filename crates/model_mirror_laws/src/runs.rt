@@ -23,7 +23,7 @@ ghost use Rattle.model_mirror.specs.Standing.{MayBe};
 ghost use Rattle.model_mirror_laws.specs.Kept.{AreSides};
 ghost use Rattle.model_mirror_laws.specs.Ahead.{KnowsRecords, CopiesLast};
 ghost use Rattle.model_mirror_laws.specs.Bytes.{ComesSo, PowersSo, IsKept, SidesAge, BeginsAgain};
-ghost use Rattle.model_mirror_laws.specs.Runs.{IsRefused, StepsOfRuns};
+ghost use Rattle.model_mirror_laws.specs.Runs.{IsRefusedFormat, StepsOfRuns};
 ghost use Rattle.model_sectors.specs.Discs.{Standing};
 
 /// A sector that is kept by a side is kept still after the power of both went off and on again, and where the mirror is on then, it shows
@@ -52,7 +52,7 @@ pub fn a_kept_sector_stays()
         → ComesSo old new (λ s t. WriteStep new.lead (λ x. x ≡ t) s lba n payload out) → KnowsRecords old
         → (at : ℕ) (bytes : List ℕ) → (at + 1 ≤ lba) ⊎ (lba + n ≤ at)
         → IsKept at bytes old → IsKept at bytes new }
-    ensures format { (old new : MirrorShown) (out : FormatOut) → IsRefused out → MirrorFormatCause old new out
+    ensures format { (old new : MirrorShown) (out : FormatOut) → IsRefusedFormat out → MirrorFormatCause old new out
         → ComesSo old new (λ s t. FormatStep old.lead new.lead (λ x. x ≡ t) s (kinds.Full true) out)
         → KnowsRecords old → (at : ℕ) (bytes : List ℕ) → IsKept at bytes old → IsKept at bytes new }
     ensures ages { (old new : MirrorShown) → SidesAge old new

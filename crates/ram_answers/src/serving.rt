@@ -149,7 +149,8 @@ fn answer_raw<A: Answers, T: Conversation>(
     requires answered { tally.old.answered < 2 ^ 63 }
     ensures ends { HasSameEnds dialogue.old dialogue.new }
     ensures turn { (first : TextBeginning A) (far : ToldSoFar A.Answers first answers.old)
-        → TakesRaw A.Answers far (run_view T.Conversation T.Sink.Sink dialogue.old tally.old) (reader_of dialogue.old).line
+        → TakesRaw A.Answers far (run_view T.Conversation T.Sink.Sink dialogue.old tally.old)
+        (reader_of dialogue.old).line
         → TextTurns A.Answers first answers.new (run_view T.Conversation T.Sink.Sink dialogue.new tally.new) result }
     ensures counts { StopCounts
         (counts_with T.Conversation T.Sink.Sink dialogue.old (A.faults answers.old))

@@ -8,7 +8,7 @@ use Rattle.model_drive.specs.Shown.{Shown, StandsFor}
 use Rattle.model_drive.specs.Writes.{WriteStep}
 use Rattle.model_mirror.specs.Leading.{Leading}
 use Rattle.model_mirror.specs.Shown.{MirrorShown, led_by, mirror_turned_off}
-use Rattle.model_mirror.specs.Taking.{IsTaken, TakeStep}
+use Rattle.model_mirror.specs.Taking.{LeadIsTaken, TakeStep}
 use Rattle.model_mirror.specs.Standing.{MirrorStands}
 use Rattle.model_mirror.specs.Writes.{write_is_stopped, after_lone_write}
 use Rattle.model_mirror.proofs.Somehow.{write_somehow}
@@ -63,7 +63,7 @@ off_stop new after discs lba n bytes writes.Off stop step = absurd (let w = stop
 
 -- the lead was stopped, and the other side took it and was written
 pub elsewhere_any : (lba n : ℕ) (bytes : List ℕ) (old mid late new : MirrorShown) (on : old.on ≡ true) (lead other lead' other₁ new_lead : Standing → Type 0) (to_shown : (s : Standing) → lead s → StandsFor old.lead s)
-    (whole : length bytes ≡ 2048 * n) (led : mid ≡ led_by old mid.lead) (lost out : WriteOut) → write_is_stopped lost ≡ true → IsTaken mid late → TakeStep other other₁ true
+    (whole : length bytes ≡ 2048 * n) (led : mid ≡ led_by old mid.lead) (lost out : WriteOut) → write_is_stopped lost ≡ true → LeadIsTaken mid late → TakeStep other other₁ true
     → ((s : Standing) → lead s → WriteStep mid.lead lead' s lba n bytes lost) → new ≡ after_lone_write out (led_by late new.lead)
     → ((s : Standing) → other₁ s → WriteStep new.lead new_lead s lba n bytes out) → (s : Standing) → MirrorStands old lead other s
     → WriteStep new.lead (MirrorStands new new_lead lead') s lba n bytes out

@@ -20,13 +20,13 @@ use Rattle.model_mirror.specs.Writes.{WritesSide, write_is_stopped, after_lone_w
 use Rattle.model_mirror.proofs.Mends.{write_keeps, mended_good}
 use Rattle.model_mirror.specs.declared.Resync.TheVariants as resyncs
 use Rattle.model_mirror.specs.Steps.{ResyncStep}
-use Rattle.model_mirror.specs.Whole.{CopyEnds, CopyGoesOn, CopiesBlock, CopyStopped, MendsBlock, MendsLack, MendEnds, MendGoesOn, GoesThrough, GoesThroughBlocks, ResyncStopped, once_written}
+use Rattle.model_mirror.specs.Whole.{CopyEnds, CopyGoesOn, CopiesBlock, CopyStopped, MendsBlock, MendsLack, MendEnds, MendGoesOn, ResyncsBlock, ResyncsBlocks, ResyncStopped, once_written}
 use Rattle.ram_mirror.specs.Sides.{CopiesOrStops}
 use Rattle.ram_mirror.specs.Resyncs.{PassesBlock, ThroughAll}
 
 -- The first k blocks were gone through.
 pub record HasPassed (start now : MirrorShown) (k : ℕ) (lead other lead' other' : Standing → Type 0) : Type 0 where
-  pub through : GoesThroughBlocks start now k
+  pub through : ResyncsBlocks start now k
   pub on : now.on ≡ true
   pub disc : HasDisc now.lead
   pub same_count : block_count now.lead ≡ block_count start.lead
@@ -155,7 +155,7 @@ module _ (old new : MirrorShown) (i : ℕ) (disc : HasDisc old.lead) where
       go reads.Fault r p = absurd (let w = p.1 in cc)
 
 -- a block was passed: it was copied or mended, or could not be, or was not to be
-passed_keeps : (old new : MirrorShown) (i : ℕ) (out : ReadOut) → HasDisc old.lead → read_is_stopped out ≡ false → PassesBlock old new i out → Keeps old new × GoesThrough old new i
+passed_keeps : (old new : MirrorShown) (i : ℕ) (out : ReadOut) → HasDisc old.lead → read_is_stopped out ≡ false → PassesBlock old new i out → Keeps old new × ResyncsBlock old new i
 passed_keeps old new i out disc goes_on passes = go old.up (is_apart old.table i) passes
   where
     go : (up apart : Bool) → MatchBool up (MatchBool apart (CopiesOrStops old new i out) (MendsBlock old new i out)) ((new ≡ old) × (out ≡ reads.Good))
@@ -200,7 +200,7 @@ module _ (start now new : MirrorShown) (k : ℕ) (lead other lead₁ other₁ le
       let keeps = passed_keeps now new k out far.disc stop passes in
       let more : suc k ≡ k + 1 = omega arith in
       record {
-        through = subst (GoesThroughBlocks start new) more (now, far.through, keeps.1);
+        through = subst (ResyncsBlocks start new) more (now, far.through, keeps.1);
         on = keeps.0.on ∙ far.on;
         disc = keeps.0.disc;
         same_count = keeps.0.same_count ∙ far.same_count;
@@ -231,7 +231,7 @@ module _ (start now new : MirrorShown) (k : ℕ) (lead other lead₁ other₁ le
 
 -- all blocks were passed
 pub all_passed : (start now : MirrorShown) (k : ℕ) (lead other lead₁ other₁ : Standing → Type 0) → HasPassed start now k lead other lead₁ other₁ → k ≡ block_count start.lead → ThroughAll start now reads.Good
-all_passed start now k lead other lead₁ other₁ far all = record { disc = far.disc; through = subst (GoesThroughBlocks start now) all far.through }
+all_passed start now k lead other lead₁ other₁ far all = record { disc = far.disc; through = subst (ResyncsBlocks start now) all far.through }
 
 pub all_stand : (start now : MirrorShown) (k : ℕ) (lead other lead₁ other₁ : Standing → Type 0) → HasPassed start now k lead other lead₁ other₁ → start.on ≡ true → IsOn start.lead
     → ((discs : List (List ℕ)) → lead (Off discs) → IsOn start.lead → ⊥) → (s : Standing) → MirrorStands start lead other s → VerifyStep (MirrorStands now lead₁ other₁) s reads.Good

@@ -5,7 +5,7 @@ use Rattle.model_sectors.specs.declared.ReadOut.{ReadOut}
 use Rattle.model_sectors.specs.declared.ReadOut.TheVariants as reads
 use Rattle.model_drive.specs.Reads.{ReadStep}
 use Rattle.model_mirror.specs.Shown.{MirrorShown, led_by}
-use Rattle.model_mirror.specs.Taking.{IsTaken, TakeStep}
+use Rattle.model_mirror.specs.Taking.{LeadIsTaken, TakeStep}
 use Rattle.model_mirror.proofs.Somehow.{led_off}
 use Rattle.model_mirror.specs.Standing.{StandsSomehow, IsFollowed, MirrorStands}
 use Rattle.model_mirror.specs.Reads.{read_is_stopped, after_lone_read}
@@ -98,7 +98,7 @@ module _ (old mid : MirrorShown) (lead lead' other other' : Standing → Type 0)
   stopped_read new other₁ take stop (Off discs) stood = absurd (not_off stop discs (led_off old on lead other discs stood) stood.1)
 
   -- it was stopped, and all was read by the side that took the lead
-  pub given_read : (late new : MirrorShown) (into' : List ℕ) (told : ReadOut) (other₁ new_lead : Standing → Type 0) → read_is_stopped out ≡ true → IsTaken mid late → TakeStep other' other₁ true
+  pub given_read : (late new : MirrorShown) (into' : List ℕ) (told : ReadOut) (other₁ new_lead : Standing → Type 0) → read_is_stopped out ≡ true → LeadIsTaken mid late → TakeStep other' other₁ true
       → ((s : Standing) → other₁ s → ReadStep new_lead s lba n into' told) → new ≡ after_lone_read told (led_by late new.lead)
       → (s : Standing) → MirrorStands old lead other s → ReadStep (MirrorStands new new_lead lead') s lba n into' told
   given_read late new into' told other₁ new_lead stop taken take step is (On disc) (_, so, followed) =

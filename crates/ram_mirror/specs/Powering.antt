@@ -14,7 +14,7 @@ use Rattle.model_mirror.specs.declared.MirrorPowerOut.TheVariants as outs
 use Rattle.model_mirror.specs.Leading.{Noted, Leading}
 use Rattle.model_mirror.specs.Shown.{MirrorShown}
 use Rattle.model_mirror.specs.Whole.{all_apart}
-use Rattle.model_mirror.specs.Powers.{WakesSide, WasMounted, once_off, on_or_off, stays_on, is_ready_with, is_read, goes_before, StandsMounted, LeadPowerStep, MirrorPowerCause}
+use Rattle.model_mirror.specs.Powers.{WakesSide, WasMounted, once_off, on_or_off, stays_on, is_ready_with, was_read, goes_before, StandsMounted, LeadPowerStep, MirrorPowerCause}
 use Rattle.ram_sectors.specs.declared.Sectors.{Ghosts as Drives}
 use Rattle.ram_mirror.specs.declared.following.Following.{Following}
 use Rattle.ram_mirror.specs.declared.following.Led.{Led}
@@ -28,7 +28,7 @@ is_ready _ = false
 
 -- whether the other side is to lead, by what is known
 abbrev pub tells_other : Leading → (lead_is_a : Bool) → (lead other : RecordOut) → Bool
-tells_other who lead_is_a lead other = ((not who.known && is_read lead) && is_read other)
+tells_other who lead_is_a lead other = ((not who.known && was_read lead) && was_read other)
     && goes_before lead_is_a who.lead.most who.other.most
 
 -- What a side stands for once its record was asked for.

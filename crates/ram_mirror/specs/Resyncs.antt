@@ -6,7 +6,7 @@ use Rattle.model_mirror.specs.Shown.{MirrorShown}
 use Rattle.model_drive.specs.Shown.{block_count}
 use Rattle.model_drive.specs.Tells.{HasDisc}
 use Rattle.model_mirror.specs.Table.{is_apart}
-use Rattle.model_mirror.specs.Whole.{MendsBlock, GoesThroughBlocks, ResyncStopped}
+use Rattle.model_mirror.specs.Whole.{MendsBlock, ResyncsBlocks, ResyncStopped}
 use Rattle.ram_mirror.specs.Sides.{CopiesOrStops}
 
 -- One block was copied if it is apart, and else mended, or could not be; or the lead was stopped. It was passed over where the other
@@ -19,7 +19,7 @@ PassesBlock old new i out = MatchBool old.up
 -- all blocks were gone through, and the lead has its disc still
 pub record HasGoneThrough (old new : MirrorShown) : Type 0 where
   pub disc : HasDisc new.lead
-  pub through : GoesThroughBlocks old new (block_count old.lead)
+  pub through : ResyncsBlocks old new (block_count old.lead)
 
 -- all blocks were gone through, or the lead was stopped at one
 abbrev pub ThroughAll : MirrorShown → MirrorShown → ReadOut → Type 0

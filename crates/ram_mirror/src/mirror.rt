@@ -257,7 +257,7 @@ impl<A: Disc, B: Disc> Mirror<A, B> {
     /// - `Unknown`: it is not known who leads and a record could not be read; or one is lost, and the lead was not given by hand or
     ///   its own is; or nothing is known of the record of a side that was stopped; or the lead could not get a greater number.
     ///   Then: the mirror is off, and nobody leads. (`NobodyLeads`)
-    /// - `Cut`, `Fault`: the lead was stopped. Then: the mirror is off. (`LeadStops`, `GoesOn`)
+    /// - `Cut`, `Fault`: the lead was stopped. Then: the mirror is off. (`LeadStops`, `LeadGoesOn`)
     pub fn power(&mut self) -> MirrorPowerOut
         ensures cause { MirrorPowerCause (mirror_shows A.Sectors B.Sectors self.old)
             (mirror_shows A.Sectors B.Sectors self.new) result }
@@ -364,7 +364,7 @@ impl<A: Disc, B: Disc> Mirror<A, B> {
     ///
     /// # Clauses
     ///
-    /// - `cause`, `step`: `ResyncCause`: each block was copied or mended in turn (`GoesThrough`), while the other side was up, and how
+    /// - `cause`, `step`: `ResyncCause`: each block was copied or mended in turn (`ResyncsBlock`), while the other side was up, and how
     ///   many are left; `ResyncStep`: the disc stays.
     /// - `underwent`: as of a read.
     ///

@@ -5,7 +5,7 @@ ghost use Rattle.model_sectors.specs.Discs.{Standing};
 ghost use Rattle.model_drive.specs.Records.{RecordStep};
 ghost use Rattle.model_mirror.specs.Leading.{NotesRecord, Raises, WritesNumber, exchanged_leading, floor_of, last_number};
 ghost use Rattle.std.specs.Prelude.{◌+◌, ◌<◌};
-ghost use Rattle.model_mirror.specs.Powers.{is_read, stays_on, can_tell, still_tells};
+ghost use Rattle.model_mirror.specs.Powers.{was_read, stays_on, can_tell, still_tells};
 ghost use Rattle.ram_mirror.specs.Notes.{noted_of, leading_of, RaiseStep};
 
 use ram_record::LeadRecord;
@@ -98,8 +98,8 @@ impl Noted {
 }
 
 /// Whether a record was read.
-pub(crate) fn is_read(out: RecordOut) -> bool
-    ensures { result ≡ is_read out }
+pub(crate) fn was_read(out: RecordOut) -> bool
+    ensures { result ≡ was_read out }
 {
     match out {
         RecordOut::Good => true,
@@ -149,7 +149,8 @@ pub(crate) fn read_record<D: Disc>(
 /// Writes the record of a side with the number after this one.
 fn write_above<D: Disc>(side: &mut D, noted: &mut Noted, above: u32) -> RecordOut
     requires more { above < last_number }
-    ensures wrote { WritesNumber (D.shows side.old) (D.shows side.new) (noted_of noted.old) (noted_of noted.new) (above + 1) result }
+    ensures wrote { WritesNumber (D.shows side.old) (D.shows side.new)
+        (noted_of noted.old) (noted_of noted.new) (above + 1) result }
     ensures step { (s : Standing) → D.stands side.old s → RecordStep (D.stands side.new) s result }
     ensures same_shape { (D.shows side.new).shape ≡ (D.shows side.old).shape }
     ensures underwent { D.underwent side.old side.new }
@@ -172,7 +173,8 @@ fn write_above<D: Disc>(side: &mut D, noted: &mut Noted, above: u32) -> RecordOu
 
 /// Makes the record of a side one with a number above this one, where it has none.
 pub(crate) fn raise<D: Disc>(side: &mut D, noted: &mut Noted, above: u32) -> RecordOut
-    ensures raises { Raises (D.shows side.old) (D.shows side.new) (noted_of noted.old) (noted_of noted.new) above result }
+    ensures raises { Raises (D.shows side.old) (D.shows side.new)
+        (noted_of noted.old) (noted_of noted.new) above result }
     ensures step { (s : Standing) → D.stands side.old s → RaiseStep (D.stands side.new) s result }
     ensures same_shape { (D.shows side.new).shape ≡ (D.shows side.old).shape }
     ensures underwent { D.underwent side.old side.new }

@@ -9,7 +9,7 @@ ghost use Rattle.ram_mirror.specs.Sides.{SidesUnderwent};
 ghost use Rattle.ram_mirror.specs.Powering.{WokenSide, tells_other, PowersLed, PowersLedStep};
 
 use crate::following::{Following, Led};
-use crate::noted::{Leading, Noted, is_read, read_record};
+use crate::noted::{Leading, Noted, was_read, read_record};
 use crate::starting::start;
 use model_mirror::{MirrorPowerOut, Waking};
 use ram_record::LeadRecord;
@@ -55,8 +55,8 @@ impl Leading {
         ensures { result ≡ tells_other (leading_of self.now) lead_is_a lead other }
     {
         !self.known
-            && is_read(lead)
-            && is_read(other)
+            && was_read(lead)
+            && was_read(other)
             && goes_before(lead_is_a, self.lead.most, self.other.most)
     }
 }
@@ -71,7 +71,8 @@ pub(crate) fn power_both<L: Disc, O: Disc>(
 ) -> Led<MirrorPowerOut>
     ensures cause { PowersLed L.Sectors O.Sectors lead_is_a lead.old other.old following.old
         lead.new other.new following.new result }
-    ensures step { PowersLedStep L.Sectors O.Sectors lead_is_a lead.old other.old lead.new other.new following.new result }
+    ensures step { PowersLedStep L.Sectors O.Sectors lead_is_a lead.old other.old
+        lead.new other.new following.new result }
     ensures underwent { SidesUnderwent L.Sectors O.Sectors lead.old other.old lead.new other.new }
 {
     following.on = false;

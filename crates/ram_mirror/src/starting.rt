@@ -5,14 +5,14 @@ ghost use Rattle.model_sectors.specs.Discs.{Standing};
 ghost use Rattle.model_drive.specs.declared.RecordOut.TheVariants as records;
 ghost use Rattle.model_drive.specs.Shown.{Shown};
 ghost use Rattle.model_drive.specs.Tells.{HasDisc};
-ghost use Rattle.model_mirror.specs.Powers.{is_ready_with, is_read, stays_on, stop_of, LeadStops, Finishes, RaisesFirst, Follows, Leads, Starts};
+ghost use Rattle.model_mirror.specs.Powers.{is_ready_with, was_read, stays_on, stop_of, LeadStops, Finishes, RaisesFirst, OtherFollows, Leads, Starts};
 ghost use Rattle.model_mirror.specs.declared.MirrorPowerOut.TheVariants as outs;
 ghost use Rattle.ram_mirror.specs.Notes.{noted_of, RaiseStep};
 ghost use Rattle.ram_mirror.specs.Sides.{shown_as, shown_by, SidesUnderwent};
 ghost use Rattle.ram_mirror.specs.Powering.{is_ready, StartsAs};
 
 use crate::following::Following;
-use crate::noted::{is_read, raise, stays_on};
+use crate::noted::{was_read, raise, stays_on};
 use crate::power::blocks_of;
 use model_mirror::{MirrorPowerOut, Waking};
 use ram_sectors::{Disc, PowerOut, RecordOut, Sectors};
@@ -61,13 +61,13 @@ fn finish<L: Disc, O: Disc>(
 /// Makes the record of the other side, which was read, one with a number above 0.
 fn raise_first<O: Disc>(other: &mut O, following: &mut Following, asked: RecordOut) -> RecordOut
     ensures raises { (side : Bool) (lead : Shown) → RaisesFirst (shown_as side lead (O.shows other.old) following.old)
-        (shown_as side lead (O.shows other.new) following.new) (is_read asked) result }
+        (shown_as side lead (O.shows other.new) following.new) (was_read asked) result }
     ensures step { (s : Standing) → O.stands other.old s → RaiseStep (O.stands other.new) s result }
     ensures same_shape { (O.shows other.new).shape ≡ (O.shows other.old).shape }
     ensures up { following.new.up ≡ following.old.up }
     ensures underwent { O.underwent other.old other.new }
 {
-    if !is_read(asked) {
+    if !was_read(asked) {
         return RecordOut::Good;
     }
     raise(other, &mut following.who.other, 0)
@@ -91,7 +91,7 @@ fn follow<L: Disc, O: Disc>(
     requires disc { is_ready here.power ≡ true → HasDisc (L.shows lead.now) }
     requires off { following.old.on ≡ false }
     requires down { following.old.up ≡ false }
-    ensures cause { (side : Bool) → Follows (shown_by L.Sectors O.Sectors side lead.now other.old following.old)
+    ensures cause { (side : Bool) → OtherFollows (shown_by L.Sectors O.Sectors side lead.now other.old following.old)
         (shown_by L.Sectors O.Sectors side lead.now other.new following.new) here there result }
     ensures step { (side : Bool) → here.record ≡ records.Good → StartsAs (L.stands lead.now) (L.stands lead.now)
         (O.stands other.old) (O.stands other.new) (shown_by L.Sectors O.Sectors side lead.now other.old following.old)

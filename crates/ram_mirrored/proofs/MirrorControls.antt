@@ -13,7 +13,7 @@ use Rattle.model_drive.specs.Shown.{Shown, StandsFor, cells_in}
 use Rattle.model_drive.specs.Parts.{AreSameOrDead}
 use Rattle.model_drive.proofs.Dying.{one_dies, same_on, same_candidates}
 use Rattle.model_mirror.specs.Shown.{MirrorShown}
-use Rattle.model_mirror.specs.Sides.{side_a, side_b, side_of}
+use Rattle.model_mirror.specs.Sides.{side_a, side_b, named_side}
 use Rattle.ram_medium.specs.Control.{WearRule, with_armed_cut}
 use Rattle.ram_medium.specs.declared.control.FailEnd.{FailEnd}
 use Rattle.ram_medium.specs.declared.control.FailEnd.TheVariants as fails
@@ -83,9 +83,9 @@ same_on_off false x shown = refl
 
 module _ (at : ℕ) (old new : MirrorShown) (r : MirrorRegister) (was : MatchesMirror at old r) where
   -- one side stands for the same, and the other one was not touched
-  module _ (on_a : Bool) (rest : new ≡ with_side on_a (side_of on_a new) old) (keeps : KeepsAll old new)
-      (stands : (s : Standing) → StandsFor (side_of on_a old) s → StandsFor (side_of on_a new) s) where
-    sides_stand : (on_a : Bool) → new ≡ with_side on_a (side_of on_a new) old → ((s : Standing) → StandsFor (side_of on_a old) s → StandsFor (side_of on_a new) s)
+  module _ (on_a : Bool) (rest : new ≡ with_side on_a (named_side on_a new) old) (keeps : KeepsAll old new)
+      (stands : (s : Standing) → StandsFor (named_side on_a old) s → StandsFor (named_side on_a new) s) where
+    sides_stand : (on_a : Bool) → new ≡ with_side on_a (named_side on_a new) old → ((s : Standing) → StandsFor (named_side on_a old) s → StandsFor (named_side on_a new) s)
         → ((s : Standing) → StandsFor (side_a old) s → StandsFor (side_a new) s) × ((s : Standing) → StandsFor (side_b old) s → StandsFor (side_b new) s)
     sides_stand true is stands = (stands, λ s at. subst (λ (x : Shown). StandsFor x s) (sym (ap (λ (m : MirrorShown). side_b m) is ∙ other_b old (side_a new))) at)
     sides_stand false is stands = (λ s at. subst (λ (x : Shown). StandsFor x s) (sym (ap (λ (m : MirrorShown). side_a m) is ∙ other_a old (side_b new))) at, stands)
@@ -103,8 +103,8 @@ module _ (at : ℕ) (old new : MirrorShown) (r : MirrorRegister) (was : MatchesM
 
     pub left_standing : Turned at new (λ after. after ≡ r)
     left_standing =
-        let known_is = ap (λ (m : MirrorShown). m.who.known) rest ∙ same_known on_a (side_of on_a new) old in
-        let on_is = ap (λ (m : MirrorShown). m.on) rest ∙ same_on_off on_a (side_of on_a new) old in
+        let known_is = ap (λ (m : MirrorShown). m.who.known) rest ∙ same_known on_a (named_side on_a new) old in
+        let on_is = ap (λ (m : MirrorShown). m.on) rest ∙ same_on_off on_a (named_side on_a new) old in
         by_known at old new r was (λ after. after ≡ r)
         (λ known led both. record { after = r; rule = refl; matches = match_led at new r (known_is ∙ known) led (record { one = held one_lost both.one; other = held other_lost both.other }) })
         (λ known led none. record { after = r; rule = refl; matches = match_none at new r (known_is ∙ known) led (record { off = on_is ∙ none.off; none = none.none; one = both_fall one_lost none.one; other = both_fall other_lost none.other }) })
@@ -113,11 +113,11 @@ module _ (at : ℕ) (old new : MirrorShown) (r : MirrorRegister) (was : MatchesM
   pub fail_called : (on_a : Bool) (block : ℕ) (told : MirrorEvent) → told ≢ one_cut → FailCall old new on_a block told → Turned at new (λ after. after ≡ r)
   fail_called on_a block told done call =
       let not_failed : call.end ≡ fails.Failed → ⊥ = λ is. done (call.told_is ∙ ap fail_told is) in
-      left_standing on_a call.rest (call.keeps not_failed) (failed_stands (side_of on_a old) (side_of on_a new) block call.end not_failed call.rule)
+      left_standing on_a call.rest (call.keeps not_failed) (failed_stands (named_side on_a old) (named_side on_a new) block call.end not_failed call.rule)
 
   pub wear_called : (on_a : Bool) (block n : ℕ) (told : MirrorEvent) → WearCall old new on_a block n told → Turned at new (λ after. after ≡ r)
   wear_called on_a block n told call =
-      left_standing on_a call.rest call.keeps (worn_stands (side_of on_a old) (side_of on_a new) (record { block = block; left = n }) call.end call.rule call.memory)
+      left_standing on_a call.rest call.keeps (worn_stands (named_side on_a old) (named_side on_a new) (record { block = block; left = n }) call.end call.rule call.memory)
 
   pub cut_called : (on_a : Bool) (n : ℕ) (fate : Fate) (told : MirrorEvent) → CutCall old new on_a n fate told → Turned at new (λ after. after ≡ r)
-  cut_called on_a n fate told call = left_standing on_a call.rest call.keeps (cut_stands (side_of on_a old) (side_of on_a new) n fate call.armed call.memory)
+  cut_called on_a n fate told call = left_standing on_a call.rest call.keeps (cut_stands (named_side on_a old) (named_side on_a new) n fate call.armed call.memory)

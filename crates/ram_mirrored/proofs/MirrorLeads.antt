@@ -20,11 +20,11 @@ use Rattle.model_mirror.specs.declared.Resync.{Resync}
 use Rattle.model_mirror.specs.declared.Resync.TheVariants as resyncs
 use Rattle.model_mirror.specs.Table.{is_apart}
 use Rattle.model_mirror.specs.Shown.{MirrorShown, may_lead, stands_in, exchanged, led_by}
-use Rattle.model_mirror.specs.Taking.{OtherRaises, IsTaken, IsNotTaken, CannotTake}
+use Rattle.model_mirror.specs.Taking.{OtherRaises, LeadIsTaken, LeadIsNotTaken, CannotTake}
 use Rattle.model_mirror.specs.Reads.{MirrorReadCause, ReadsWithSides, ReadsLed, MirrorReadsPart, MirrorReadsParts, EndsPart, AsksOther, after_lone_read}
 use Rattle.model_mirror.specs.Writes.{MirrorWriteCause, WritesWithSides, WritesLed, OtherEnds, OtherWrites, LeadRefuses, after_lone_write}
-use Rattle.model_mirror.specs.Whole.{MirrorFormatCause, FormatsOn, ResyncCause, ResyncsOn, CopyEnds, CopyGoesOn, CopiesBlock, MendEnds, MendGoesOn, MendsBlock, MendsLack, GoesThrough, GoesThroughBlocks, CopyStopped}
-use Rattle.model_mirror.specs.Powers.{MirrorPowerCause, NobodyLeads, LeadStops, Finishes, RaisesFirst, Follows, GoesOn, Leads, Starts, is_to_lead, goes_before, is_read, can_tell, still_tells, stays_on, stop_of}
+use Rattle.model_mirror.specs.Whole.{MirrorFormatCause, FormatsOn, ResyncCause, ResyncsOn, CopyEnds, CopyGoesOn, CopiesBlock, MendEnds, MendGoesOn, MendsBlock, MendsLack, ResyncsBlock, ResyncsBlocks, CopyStopped}
+use Rattle.model_mirror.specs.Powers.{MirrorPowerCause, NobodyLeads, LeadStops, Finishes, RaisesFirst, OtherFollows, LeadGoesOn, Leads, Starts, is_to_lead, goes_before, was_read, can_tell, still_tells, stays_on, stop_of}
 
 -- it is as known as before
 abbrev pub SameKnown : MirrorShown → MirrorShown → Type 0
@@ -40,10 +40,10 @@ by_same old new shown is same = ap known_of is ∙ same
 other_raised : (mid late : MirrorShown) (above : ℕ) (out : RecordOut) → OtherRaises mid late above out → SameKnown mid late
 other_raised mid late above out raises = ap known_of raises.new_is
 
-taken : (mid new : MirrorShown) → IsTaken mid new → SameKnown mid new
+taken : (mid new : MirrorShown) → LeadIsTaken mid new → SameKnown mid new
 taken mid new is = ap known_of is.new_is ∙ other_raised mid is.late mid.who.lead.most records.Good is.wrote
 
-not_taken : (mid new : MirrorShown) → IsNotTaken mid new → SameKnown mid new
+not_taken : (mid new : MirrorShown) → LeadIsNotTaken mid new → SameKnown mid new
 not_taken mid new is = ap known_of is.new_is ∙ go (may_lead mid) is.why
   where
     go : (b : Bool) → MatchBool b (CannotTake mid is.late) (is.late ≡ mid) → SameKnown mid is.late
@@ -180,7 +180,7 @@ mend_goes_on mid new i reads.Off out is = absurd is
 mends : (old new : MirrorShown) (i : ℕ) (out : ReadOut) → MendsBlock old new i out → SameKnown old new
 mends old new i out is = mend_goes_on is.mid new i is.told out is.goes_on ∙ ap known_of is.reads.1
 
-goes_through : (old new : MirrorShown) (i : ℕ) → GoesThrough old new i → SameKnown old new
+goes_through : (old new : MirrorShown) (i : ℕ) → ResyncsBlock old new i → SameKnown old new
 goes_through old new i is = go old.up is
   where
     block : (b : Bool) → MatchBool b (CopiesBlock old new i) (MendsBlock old new i reads.Good) → SameKnown old new
@@ -191,7 +191,7 @@ goes_through old new i is = go old.up is
     go true part = block (is_apart old.table i) part
     go false same = ap known_of same
 
-through_blocks : (old new : MirrorShown) (n : ℕ) → GoesThroughBlocks old new n → SameKnown old new
+through_blocks : (old new : MirrorShown) (n : ℕ) → ResyncsBlocks old new n → SameKnown old new
 through_blocks old new zero same = ap known_of same
 through_blocks old new (suc k) is = goes_through is.0 new k is.2 ∙ through_blocks old is.0 k is.1
 
@@ -265,11 +265,11 @@ first_raised : (mid late : MirrorShown) (asked : Bool) (raised : RecordOut) → 
 first_raised mid late true raised is = ap (λ (s : MirrorShown). s.lead_is_a) is.new_is
 first_raised mid late false raised is = ap (λ (s : MirrorShown). s.lead_is_a) is.0
 
-follows : (before mid new : MirrorShown) (lead other : Waking) (out : MirrorPowerOut) → mid.lead_is_a ≡ before.lead_is_a → Follows mid new lead other out → Kept before new out
+follows : (before mid new : MirrorShown) (lead other : Waking) (out : MirrorPowerOut) → mid.lead_is_a ≡ before.lead_is_a → OtherFollows mid new lead other out → Kept before new out
 follows before mid new lead other out roles is = go (still_tells is.late.who is.raised) is.ends
   where
     late_roles : is.late.lead_is_a ≡ before.lead_is_a
-    late_roles = first_raised mid is.late (is_read other.record) is.raised is.raises ∙ roles
+    late_roles = first_raised mid is.late (was_read other.record) is.raised is.raises ∙ roles
 
     go : (b : Bool) → MatchBool b (Finishes is.late new other.power (stays_on other.record && stays_on is.raised) lead.power out) (NobodyLeads is.late new out) → Kept before new out
     go true ends = finishes before is.late new other.power (stays_on other.record && stays_on is.raised) lead.power out late_roles ends
@@ -281,7 +281,7 @@ leads mid new lead other out off is = go is.raised is.ends
     before : AsBefore mid is.late
     before = record { roles = ap (λ (s : MirrorShown). s.lead_is_a) is.raises.new_is; known = ap known_of is.raises.new_is; off = ap (λ (s : MirrorShown). s.on) is.raises.new_is }
 
-    go : (raised : RecordOut) → GoesOn is.late new lead other out raised → Kept mid new out
+    go : (raised : RecordOut) → LeadGoesOn is.late new lead other out raised → Kept mid new out
     go records.Good ends = follows mid is.late new lead other out before.roles ends
     go records.Lost ends = nobody mid is.late new out before.roles ends
     go records.Cut ends = stopped_as mid is.late new out outs.Cut before off (inl refl) ends.0 ends.1
@@ -328,7 +328,7 @@ tells_from old mid new outs.Fault same tells = (tells.0 ∙ same, tells.1)
 not_to_lead : (mid : MirrorShown) (a b : RecordOut) → mid.who.known ≡ true → is_to_lead mid a b ≡ false
 not_to_lead mid a b known = go mid.who.known (goes_before mid.lead_is_a mid.who.lead.most mid.who.other.most) known
   where
-    go : (k c : Bool) → k ≡ true → (((not k && is_read a) && is_read b) && c) ≡ false
+    go : (k c : Bool) → k ≡ true → (((not k && was_read a) && was_read b) && c) ≡ false
     go true c is = refl
     go false c is = absurd (let w = is in cc)
 

@@ -22,7 +22,7 @@ use Rattle.model_mirror.specs.Writes.{MirrorWriteCause}
 use Rattle.model_mirror.specs.Powers.{MirrorPowerCause, MirrorPowerStep}
 use Rattle.model_mirror.specs.Whole.{MirrorFormatCause, ResyncCause}
 use Rattle.model_mirror.specs.Giving.{GiveLeadCause, GiveStepOf, leader_of}
-use Rattle.model_mirror.specs.Sides.{side_a, side_b, side_of}
+use Rattle.model_mirror.specs.Sides.{side_a, side_b, named_side}
 use Rattle.model_mirror.specs.Standing.{MayBe}
 use Rattle.ram_medium.specs.Control.{WearRule, with_armed_cut}
 use Rattle.ram_medium.specs.declared.control.FailEnd.{FailEnd}
@@ -111,30 +111,31 @@ module _ (old new : MirrorShown) where
   -- a block of a side was to fail; where its image failed in it, its power is off
   pub record FailCall (on_a : Bool) (block : ℕ) (told : MirrorEvent) : Type 0 where
     pub end : FailEnd
-    pub rule : FailOnDrive (side_of on_a old) (side_of on_a new) block end
-    pub leaves : LeavesSound (side_of on_a old) (side_of on_a new)
-    pub rest : new ≡ with_side on_a (side_of on_a new) old
+    pub rule : FailOnDrive (named_side on_a old) (named_side on_a new) block end
+    pub leaves : LeavesSound (named_side on_a old) (named_side on_a new)
+    pub rest : new ≡ with_side on_a (named_side on_a new) old
     pub keeps : end ≢ fails.Failed → KeepsAll
-    pub stands : (s : Standing) → StandsFor (side_of on_a old) s → StandsFor (side_of on_a new) (standing_after_fail s end)
+    pub stands : (s : Standing) → StandsFor (named_side on_a old) s
+        → StandsFor (named_side on_a new) (standing_after_fail s end)
     pub told_is : told ≡ fail_told end
 
   -- a block of a side was to be armed
   pub record WearCall (on_a : Bool) (block n : ℕ) (told : MirrorEvent) : Type 0 where
     pub end : Arm
-    pub rule : WearRule (total (side_of on_a old).shape) (side_of on_a old).medium (side_of on_a new).medium
+    pub rule : WearRule (total (named_side on_a old).shape) (named_side on_a old).medium (named_side on_a new).medium
         (record { block = block; left = n }) end
-    pub memory : KeepsMemory (side_of on_a old) (side_of on_a new)
-    pub leaves : LeavesSound (side_of on_a old) (side_of on_a new)
-    pub rest : new ≡ with_side on_a (side_of on_a new) old
+    pub memory : KeepsMemory (named_side on_a old) (named_side on_a new)
+    pub leaves : LeavesSound (named_side on_a old) (named_side on_a new)
+    pub rest : new ≡ with_side on_a (named_side on_a new) old
     pub keeps : KeepsAll
     pub told_is : told ≡ wear_told end
 
   -- a cut of a side was armed
   pub record CutCall (on_a : Bool) (n : ℕ) (fate : Fate) (told : MirrorEvent) : Type 0 where
-    pub armed : (side_of on_a new).medium ≡ with_armed_cut n fate (side_of on_a old).medium
-    pub memory : KeepsMemory (side_of on_a old) (side_of on_a new)
-    pub leaves : LeavesSound (side_of on_a old) (side_of on_a new)
-    pub rest : new ≡ with_side on_a (side_of on_a new) old
+    pub armed : (named_side on_a new).medium ≡ with_armed_cut n fate (named_side on_a old).medium
+    pub memory : KeepsMemory (named_side on_a old) (named_side on_a new)
+    pub leaves : LeavesSound (named_side on_a old) (named_side on_a new)
+    pub rest : new ≡ with_side on_a (named_side on_a new) old
     pub keeps : KeepsAll
     pub told_is : told ≡ mirrors.OfDisc events.Armed
 

@@ -188,7 +188,8 @@ pub(crate) fn press_both<S: Side>(
     wanted: (u32, u32, u32),
 ) -> (Held<S>, Result<Told, Stopped>)
     ensures step { (s : PairState) → HeldAs S.Sectors S.lies_in S.Image.Image held s
-        → IsPressed S.Sectors S.lies_in S.Image.Image s (shape_in OneGroup wanted.0 wanted.1 wanted.2) result.1 result.0 }
+        → IsPressed S.Sectors S.lies_in S.Image.Image s
+        (shape_in OneGroup wanted.0 wanted.1 wanted.2) result.1 result.0 }
     ensures count { LineStops (faults_held S.Sectors S.Image.Image held)
         (faults_held S.Sectors S.Image.Image result.0) result.1 }
 {

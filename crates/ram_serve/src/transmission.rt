@@ -49,7 +49,8 @@ pub fn serve_requests<D: Drive, T: Conversation>(
         → BetweenRequests first faults size n (Stands D.Caching D.lies_in D.Image.Image inserted.old)
         (T.left talk.old) (T.Sink.Sink.written (T.report talk.old))
         → RequestsLeadTo first faults size (n + MOST_MESSAGES)
-        (Stands D.Caching D.lies_in D.Image.Image inserted.new) (T.left talk.new) (T.Sink.Sink.written (T.report talk.new)) result }
+        (Stands D.Caching D.lies_in D.Image.Image inserted.new)
+        (T.left talk.new) (T.Sink.Sink.written (T.report talk.new)) result }
     ensures counts { TurnCounts
         (counts_now T.Conversation T.Sink.Sink talk.old (faults_of D.Caching D.Image.Image inserted.old))
         (counts_now T.Conversation T.Sink.Sink talk.new (faults_of D.Caching D.Image.Image inserted.new)) result }

@@ -1,6 +1,6 @@
 use Rattle.std.proofs.Common.{Bool, refl, sym, ap, ◌∙◌, subst}
 use Rattle.std.specs.Prelude.{MatchBool, ◌&&◌}
-use Rattle.model_mirror.specs.Powers.{stays_on, is_read, NobodyLeads, Finishes}
+use Rattle.model_mirror.specs.Powers.{stays_on, was_read, NobodyLeads, Finishes}
 use Rattle.ram_mirror.specs.Tables.{entries_of}
 use Rattle.ram_mirror.specs.Notes.{leading_of}
 use Rattle.ram_mirror.specs.Sides.{shown_by}
@@ -30,5 +30,5 @@ returns-clause-cause g c = λ side. record {
 pub returns-clause-step : goal.returns-clause-step
 returns-clause-step g c = λ side read.
     finished (g.L.Sectors.stands c.args.lead.now) (g.O.Sectors.stands c.args.other.now) (g.O.Sectors.stands c.raise_first-raised.new.other) (shown_by g.L.Sectors g.O.Sectors side c.args.lead.now c.args.other.now c.args.following.now) (shown_by g.L.Sectors g.O.Sectors side c.args.lead.now c.raise_first-raised.new.other c.raise_first-raised.new.following) (shown_by g.L.Sectors g.O.Sectors side c.args.lead.now c.raise_first-raised.new.other c.finish.new.following) c.args.here c.args.there refl (c.raise_first-raised.ensures.up ∙ c.requires.down) c.raise_first-raised.result
-    (first_since (shown_by g.L.Sectors g.O.Sectors side c.args.lead.now c.args.other.now c.args.following.now) (shown_by g.L.Sectors g.O.Sectors side c.args.lead.now c.raise_first-raised.new.other c.raise_first-raised.new.following) (is_read c.args.there.record) c.raise_first-raised.result (c.raise_first-raised.ensures.raises side (g.L.Sectors.shows c.args.lead.now)) c.raise_first-raised.ensures.same_shape) c.raise_first-raised.ensures.step
+    (first_since (shown_by g.L.Sectors g.O.Sectors side c.args.lead.now c.args.other.now c.args.following.now) (shown_by g.L.Sectors g.O.Sectors side c.args.lead.now c.raise_first-raised.new.other c.raise_first-raised.new.following) (was_read c.args.there.record) c.raise_first-raised.result (c.raise_first-raised.ensures.raises side (g.L.Sectors.shows c.args.lead.now)) c.raise_first-raised.ensures.same_shape) c.raise_first-raised.ensures.step
     c.args.here.power refl read c.both_stay_on-on.result c.both_stay_on-on.ensures c.finish.result (c.finish.ensures.cause side)
