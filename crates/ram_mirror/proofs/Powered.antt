@@ -120,24 +120,27 @@ module _ (mid new : MirrorShown) (here there : Waking) (lead lead₁ lead' other
 
   pub powered : (out : MirrorPowerOut) → StartsAs lead₁ lead' other₁ other' mid new here there out → (s t : Standing) → lead s → other t → PowersRoles new.lead (MirrorStands new lead' other') lead' other' s t s out
   powered (outs.Ready known) starts s t so to = record {
-    leads = (known_is, record {
-      mounted = woke.cause.mounted;
-      since = since;
-      finds = record {
-        lists = found.lists;
-        in_use = found.in_use;
-        disc = found.disc;
-        first = found.first;
-        found = (
-          starts.on,
-          starts.keeps (On found.disc) found.found,
-          record {
-            some = mounted_some other' t (other_mounted starts.some t to);
-            copy = λ up. copied known found.disc (starts.keeps (On found.disc) found.found) known_is starts.table (starts.up up) t to;
-          },
-        );
-      };
-    });
+    leads = (
+      known_is,
+      record {
+        mounted = woke.cause.mounted;
+        since = since;
+        finds = record {
+          lists = found.lists;
+          in_use = found.in_use;
+          disc = found.disc;
+          first = found.first;
+          found = (
+            starts.on,
+            starts.keeps (On found.disc) found.found,
+            record {
+              some = mounted_some other' t (other_mounted starts.some t to);
+              copy = λ up. copied known found.disc (starts.keeps (On found.disc) found.found) known_is starts.table (starts.up up) t to;
+            },
+          );
+        };
+      },
+    );
     of_lead = lead_mounted (λ x a. inl (starts.keeps x a)) s so;
     of_other = other_mounted starts.some t to;
   }

@@ -9,7 +9,7 @@ ghost use Rattle.ram_mirror.specs.Sides.{SidesUnderwent};
 ghost use Rattle.ram_mirror.specs.Powering.{WokenSide, tells_other, PowersLed, PowersLedStep};
 
 use crate::following::{Following, Led};
-use crate::noted::{Leading, Noted, was_read, read_record};
+use crate::noted::{Leading, Noted, read_record, was_read};
 use crate::starting::start;
 use model_mirror::{MirrorPowerOut, Waking};
 use ram_record::LeadRecord;

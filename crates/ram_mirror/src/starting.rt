@@ -12,7 +12,7 @@ ghost use Rattle.ram_mirror.specs.Sides.{shown_as, shown_by, SidesUnderwent};
 ghost use Rattle.ram_mirror.specs.Powering.{is_ready, StartsAs};
 
 use crate::following::Following;
-use crate::noted::{was_read, raise, stays_on};
+use crate::noted::{raise, stays_on, was_read};
 use crate::power::blocks_of;
 use model_mirror::{MirrorPowerOut, Waking};
 use ram_sectors::{Disc, PowerOut, RecordOut, Sectors};

@@ -1,0 +1,9 @@
+pub mod RunHistories
+pub mod Labels
+pub mod Aging
+pub mod WellKept
+pub mod Lying
+pub mod StaysKept
+pub mod Upright
+pub mod ShownAgain
+pub mod Composed
