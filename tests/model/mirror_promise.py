@@ -2,8 +2,9 @@
 
 A sector that was written good has those bytes, and one whose write was stopped or refused may have them. A
 good read shows a value that the sector may have, and from then on it has that one. So no older bytes come
-back, whatever the order of the images and wherever the power was cut. A `press` makes new discs, and a lead
-that is given by hand is trusted: after both nothing is known.
+back, whatever the order of the images and wherever the power was cut. After a `power` that is `ready N` only
+the first N sectors are shown. A `press` makes new discs, and a lead that is given by hand is trusted: after
+both nothing is known.
 """
 from __future__ import annotations
 
@@ -39,6 +40,7 @@ class MirrorPromise:
 
     def __init__(self) -> None:
         self.values: Dict[int, Set[bytes]] = {}
+        self.capacity: Optional[int] = None
 
     def of(self, sector: int) -> Optional[Set[bytes]]:
         """What the sector may have, if that is known."""
@@ -58,7 +60,11 @@ class MirrorPromise:
         words = answer[0]
         if (line.name == "press" and words == "pressed") or (line.name == "give" and words in ("a", "b")):
             self.values.clear()
+            self.capacity = None
+        elif line.name == "power" and words.startswith("ready "):
+            self.capacity = int(words[len("ready "):])
         elif line.name == "format":
+            self.capacity = None
             self.fill(words)
         elif line.name == "write":
             self.write(line, words)
@@ -90,6 +96,8 @@ class MirrorPromise:
             if match is None:
                 return f"no sector: {text[:40]}"
             sector, fill, digits = match.groups()
+            if self.capacity is not None and int(sector) >= self.capacity:
+                return f"sector {sector} is shown of a disc with {self.capacity}"
             data = bytes.fromhex(fill) * SECTOR if fill else bytes.fromhex(digits)
             held = self.of(int(sector))
             if held is not None and data not in held:
