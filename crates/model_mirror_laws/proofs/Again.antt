@@ -14,9 +14,8 @@ use Rattle.model_mirror.specs.Leading.{floor_of}
 use Rattle.model_mirror.specs.Shown.{MirrorShown, exchanged}
 use Rattle.model_mirror.specs.Taking.{LeadRaises}
 use Rattle.model_mirror.specs.Powers.{MirrorPowerCause, NobodyLeads, LeadStops, stop_of, Starts, Leads, LeadGoesOn, OtherFollows, RaisesFirst, Finishes, is_to_lead, was_read, can_tell, still_tells, stays_on, goes_before}
-use Rattle.model_mirror_laws.specs.Ahead.{HoldsOfCopies, IsAhead, KeepsACopy, KnowsRecords, CopiesLast, SideIsAhead}
+use Rattle.model_mirror_laws.specs.Ahead.{HoldsOfCopies, IsAhead, KeepsACopy, KnowsRecords, WakesWithCopies, SideIsAhead}
 use Rattle.model_mirror_laws.proofs.Numbers.{woke_copies, woke_has, raised_copies, raised_exact}
-use Rattle.model_mirror_laws.proofs.LastingCopies.{copies_woke}
 use Rattle.model_mirror_laws.proofs.Knowing.{KnowsLead, HasWoken, knows_lead, raises_other, told_seen, both_read, and_right, has_woken, has_woken_exchanged}
 
 -- the same sides
@@ -333,7 +332,7 @@ not_same a true one two = false≢true (sym two ∙ one)
 not_same a false one two = false≢true (sym one ∙ two)
 
 pub leads_again : (old new : MirrorShown) (out : MirrorPowerOut) (cause : MirrorPowerCause old new out)
-    → CopiesLast old new → KnowsRecords old → (on_a : Bool) → SideIsAhead on_a old → (old.who.known ≡ true → old.lead_is_a ≡ on_a)
+    → WakesWithCopies old new out cause → KnowsRecords old → (on_a : Bool) → SideIsAhead on_a old → (old.who.known ≡ true → old.lead_is_a ≡ on_a)
     → SideIsAhead on_a new × (new.who.known ≡ true → new.lead_is_a ≡ on_a)
 leads_again old new out cause last knows on_a was led = elim (which on_a old.lead_is_a old.lead old.other (named on_a old was)) [
   | inl first ↦
@@ -346,7 +345,7 @@ leads_again old new out cause last knows on_a was led = elim (which on_a old.lea
 ]
   where
     copies : KeepsACopy old.lead cause.mid.lead × KeepsACopy old.other cause.mid.other
-    copies = copies_woke old new out cause last
+    copies = (last.lead, last.other)
 
     not_known : old.lead_is_a ≡ not on_a → old.who.known ≡ false
     not_known turned = go old.who.known refl

@@ -21,7 +21,7 @@ use Rattle.model_mirror.specs.Shown.{MirrorShown, exchanged}
 use Rattle.model_mirror.specs.Standing.{StandsSomehow, MayBe}
 use Rattle.model_mirror.specs.Powers.{MirrorPowerCause, NobodyLeads, LeadStops, stop_of, Starts, Leads, LeadGoesOn, OtherFollows, Finishes, is_to_lead, can_tell, still_tells, stays_on, MirrorPowerStep, StandsMounted, on_or_off, LeadPowerStep, of_lead}
 use Rattle.model_mirror.specs.Sides.{side_a, side_b, named_side}
-use Rattle.model_mirror_laws.specs.Ahead.{IsAhead, KnowsRecords, CopiesLast, SideIsAhead}
+use Rattle.model_mirror_laws.specs.Ahead.{IsAhead, KnowsRecords, WakesWithCopies, SideIsAhead}
 use Rattle.model_mirror_laws.specs.Bytes.{PowersSo, HasSector, AllHave, HoldsSector, ShowsSector, KeepsSector, IsKept, IsReopened, BeginsAgain}
 use Rattle.model_drive.proofs.Dying.{same_off, same_candidates}
 use Rattle.model_mirror_laws.proofs.Numbers.{dying_copies}
@@ -192,7 +192,7 @@ module _ (at : ℕ) (bytes : List ℕ) where
 
 -- The power on.
 module _ (old new : MirrorShown) (out : MirrorPowerOut) (cause : MirrorPowerCause old new out)
-    (copies : CopiesLast old new) (so : PowersSo old new out) (knows : KnowsRecords old) (at : ℕ) (bytes : List ℕ) where
+    (copies : WakesWithCopies old new out cause) (so : PowersSo old new out) (knows : KnowsRecords old) (at : ℕ) (bytes : List ℕ) where
   known_on : KnowsLeadWhenOn new
   known_on on = ((power_knows old new out cause (knows_lead old knows)).leads on).known
 
@@ -215,7 +215,7 @@ module _ (old new : MirrorShown) (out : MirrorPowerOut) (cause : MirrorPowerCaus
   ]
 
 pub power_keeps_sector : (old new : MirrorShown) (out : MirrorPowerOut) (cause : MirrorPowerCause old new out)
-    → CopiesLast old new → PowersSo old new out → KnowsRecords old → (at : ℕ) (bytes : List ℕ) → IsKept at bytes old → IsKept at bytes new
+    → WakesWithCopies old new out cause → PowersSo old new out → KnowsRecords old → (at : ℕ) (bytes : List ℕ) → IsKept at bytes old → IsKept at bytes new
 power_keeps_sector old new out cause copies so knows at bytes (on_a, keeps) = comes old new out cause copies so knows at bytes on_a keeps
 
 -- A side that was opened anew.

@@ -18,7 +18,7 @@ use Rattle.model_mirror.specs.Leading.{Noted, Raises, WritesNumber, WritesNoNumb
 use Rattle.model_mirror.specs.Shown.{MirrorShown, exchanged}
 use Rattle.model_mirror.specs.Powers.{NobodyLeads, LeadStops, stop_of, OtherFollows, RaisesFirst, LeadGoesOn, Leads, Starts, Finishes, is_to_lead, was_read, can_tell, still_tells, stays_on, MirrorPowerCause}
 use Rattle.model_mirror.specs.Sides.{side_a, side_b}
-use Rattle.model_mirror_laws.specs.Ahead.{KeepsACopy, CopiesLast}
+use Rattle.model_mirror_laws.specs.Ahead.{KeepsACopy, WakesWithCopies, CopiesLast}
 
 -- dead cells stay dead
 abbrev DeadStay : Shown → Shown → Type 0
@@ -150,9 +150,10 @@ by_role false false x x' y y' e one two = (two, one)
 before_that : (old mid new : Shown) → DeadStay mid new → KeepsACopy old new → KeepsACopy old mid
 before_that old mid new stay last = record { value = last.value; area = last.area; copy = last.copy; lives = λ dead. last.lives (stay _ dead) }
 
-pub copies_woke : (old new : MirrorShown) (out : MirrorPowerOut) (cause : MirrorPowerCause old new out) → CopiesLast old new → KeepsACopy old.lead cause.mid.lead × KeepsACopy old.other cause.mid.other
-copies_woke old new out cause last = by_role old.lead_is_a cause.mid.lead_is_a old.lead old.other cause.mid.lead cause.mid.other (ap (λ (s : MirrorShown). s.lead_is_a) cause.wakes.new_is)
-    (before_that (side_a old) (side_a cause.mid) (side_a new) stay.a last.a) (before_that (side_b old) (side_b cause.mid) (side_b new) stay.b last.b)
+pub copies_woke : (old new : MirrorShown) (out : MirrorPowerOut) (cause : MirrorPowerCause old new out) → CopiesLast old new → WakesWithCopies old new out cause
+copies_woke old new out cause last = let both = by_role old.lead_is_a cause.mid.lead_is_a old.lead old.other cause.mid.lead cause.mid.other (ap (λ (s : MirrorShown). s.lead_is_a) cause.wakes.new_is)
+    (before_that (side_a old) (side_a cause.mid) (side_a new) stay.a last.a) (before_that (side_b old) (side_b cause.mid) (side_b new) stay.b last.b) in
+    record { lead = both.0; other = both.1 }
   where
     stay : BothStay cause.mid new
     stay = go (is_to_lead cause.mid cause.lead.record cause.other.record) cause.starts

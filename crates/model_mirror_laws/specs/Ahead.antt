@@ -5,6 +5,8 @@ use Rattle.model_lists.specs.Records.{LeadRecord, IsRecordText}
 use Rattle.model_medium.specs.Cells.{Dead, cell_at}
 use Rattle.model_copies.specs.Copies.{HasCopy}
 use Rattle.model_drive.specs.Shown.{Shown, IsKnown, cells_in}
+use Rattle.model_mirror.specs.declared.MirrorPowerOut.{MirrorPowerOut}
+use Rattle.model_mirror.specs.Powers.{MirrorPowerCause}
 use Rattle.model_mirror.specs.Leading.{Noted}
 use Rattle.model_mirror.specs.Shown.{MirrorShown}
 use Rattle.model_mirror.specs.Sides.{side_a, side_b, named_side}
@@ -47,7 +49,13 @@ pub record KnowsRecords (shown : MirrorShown) : Type 0 where
   pub noted : IsNoted shown.who.other shown.other
   pub leads : shown.on ≡ true → LeadsByNumber shown
 
--- Each side has a copy of its record that could be read before, and is not dead now.
+-- Each side has a copy of its record that could be read, and is not dead once it woke.
+pub record WakesWithCopies (old new : MirrorShown) (out : MirrorPowerOut) (cause : MirrorPowerCause old new out) : Type 0 where
+  pub lead : KeepsACopy old.lead cause.mid.lead
+  pub other : KeepsACopy old.other cause.mid.other
+
+-- The same of the states before and after a power on alone: each side has a copy of its record that could be read before, and is not
+-- dead now.
 pub record CopiesLast (old new : MirrorShown) : Type 0 where
   pub a : KeepsACopy (side_a old) (side_a new)
   pub b : KeepsACopy (side_b old) (side_b new)

@@ -17,7 +17,7 @@ use Rattle.model_mirror.specs.Reads.{MirrorReadCause}
 use Rattle.model_mirror.specs.Writes.{MirrorWriteCause}
 use Rattle.model_mirror.specs.Whole.{MirrorFormatCause, ResyncCause}
 use Rattle.model_mirror.specs.Steps.{ResyncStep}
-use Rattle.model_mirror_laws.specs.Ahead.{CopiesLast}
+use Rattle.model_mirror_laws.specs.Ahead.{WakesWithCopies}
 use Rattle.model_mirror_laws.specs.Bytes.{ComesSo, PowersSo, SidesAge, BeginsAgain}
 
 -- A format that was refused: it left the disc, or none. One that was good or stopped may leave zeros.
@@ -34,7 +34,7 @@ module _ (old new : MirrorShown) where
   pub record PowersOn : Type 0 where
     pub out : MirrorPowerOut
     pub cause : MirrorPowerCause old new out
-    pub copies : CopiesLast old new
+    pub copies : WakesWithCopies old new out cause
     pub so : PowersSo old new out
 
   -- sectors were read

@@ -15,7 +15,7 @@ ghost use Rattle.model_mirror.specs.Whole.{MirrorFormatCause, ResyncCause};
 ghost use Rattle.model_mirror.specs.Powers.{MirrorPowerCause};
 ghost use Rattle.model_mirror_laws.specs.Kept.{AreSides};
 ghost use Rattle.model_mirror_laws.specs.Bytes.{SidesAge};
-ghost use Rattle.model_mirror_laws.specs.Ahead.{KnowsRecords, IsAhead, CopiesLast, SideIsAhead};
+ghost use Rattle.model_mirror_laws.specs.Ahead.{KnowsRecords, IsAhead, WakesWithCopies, CopiesLast, SideIsAhead};
 
 /// What a mirror has noted of its records is true of their copies, from the beginning of a run, in each of its calls but the one that
 /// gives the lead, and between two calls.
@@ -45,7 +45,13 @@ pub fn the_lead_is_ahead()
 /// the order of the images. Of each record a copy has to last, and the side led before, where who leads is known.
 pub fn the_side_that_is_ahead_leads_again()
     ensures { (old new : MirrorShown) (out : MirrorPowerOut)
-        → MirrorPowerCause old new out → CopiesLast old new → KnowsRecords old
+        → (cause : MirrorPowerCause old new out) → WakesWithCopies old new out cause → KnowsRecords old
         → (on_a : Bool) → SideIsAhead on_a old → (old.who.known ≡ true → old.lead_is_a ≡ on_a)
         → SideIsAhead on_a new × (new.who.known ≡ true → new.lead_is_a ≡ on_a) }
+{}
+
+/// A copy of each record that could be read before a power on, and is not dead after it, was not dead when both sides woke in it.
+pub fn a_copy_that_lasts_was_there_when_both_sides_woke()
+    ensures { (old new : MirrorShown) (out : MirrorPowerOut) (cause : MirrorPowerCause old new out)
+        → CopiesLast old new → WakesWithCopies old new out cause }
 {}

@@ -12,7 +12,8 @@ mod kept;
 mod runs;
 
 pub use ahead::{
-    the_lead_is_ahead, the_side_that_is_ahead_leads_again, what_is_noted_of_the_records_is_true,
+    a_copy_that_lasts_was_there_when_both_sides_woke, the_lead_is_ahead,
+    the_side_that_is_ahead_leads_again, what_is_noted_of_the_records_is_true,
 };
 pub use counted::a_fault_of_a_mirror_is_counted;
 pub use kept::{a_call_leaves_both_sides_sound, other_calls_leave_the_records};

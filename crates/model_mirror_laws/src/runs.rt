@@ -21,7 +21,7 @@ ghost use Rattle.model_mirror.specs.Shown.{MirrorShown};
 ghost use Rattle.model_mirror.specs.Powers.{MirrorPowerCause};
 ghost use Rattle.model_mirror.specs.Standing.{MayBe};
 ghost use Rattle.model_mirror_laws.specs.Kept.{AreSides};
-ghost use Rattle.model_mirror_laws.specs.Ahead.{KnowsRecords, CopiesLast};
+ghost use Rattle.model_mirror_laws.specs.Ahead.{KnowsRecords, WakesWithCopies};
 ghost use Rattle.model_mirror_laws.specs.Bytes.{ComesSo, PowersSo, IsKept, SidesAge, BeginsAgain};
 ghost use Rattle.model_mirror_laws.specs.Runs.{IsRefusedFormat, StepsOfRuns};
 ghost use Rattle.model_sectors.specs.Discs.{Standing};
@@ -30,7 +30,8 @@ ghost use Rattle.model_sectors.specs.Discs.{Standing};
 /// the sector; also in the first power on of another run, in either order of the images. Of each record a copy has to last.
 pub fn a_kept_sector_comes_again()
     ensures power { (old new : MirrorShown) (out : MirrorPowerOut)
-        → MirrorPowerCause old new out → CopiesLast old new → PowersSo old new out → KnowsRecords old
+        → (cause : MirrorPowerCause old new out) → WakesWithCopies old new out cause → PowersSo old new out
+        → KnowsRecords old
         → (at : ℕ) (bytes : List ℕ) → IsKept at bytes old → IsKept at bytes new }
     ensures begins { (turned : Bool) (old new : MirrorShown) → BeginsAgain turned old new
         → (at : ℕ) (bytes : List ℕ) → IsKept at bytes old → IsKept at bytes new }

@@ -1,7 +1,7 @@
 -- What keeps a sector over runs, and how it was written and is shown. (This project's own, as all here.)
 use Rattle.std.specs.Prelude.{◌≡◌, ◌≢◌, ℕ, zero, suc, true, false, Ok, Err, List}
 use Rattle.model_mirror.specs.Shown.{MirrorShown}
-use Rattle.model_mirror_laws.specs.Ahead.{CopiesLast}
+use Rattle.model_mirror_laws.specs.Ahead.{WakesWithCopies}
 use Rattle.model_mirror_laws.specs.Runs.{IsRefusedFormat}
 use Rattle.ram_medium.specs.declared.control.FailEnd.TheVariants as fails
 use Rattle.ram_report.specs.declared.printing.MirrorEvent.{MirrorEvent}
@@ -21,7 +21,7 @@ module _ (at : ℕ) where
   -- of other sectors; a format is refused; no image fails while a block is to fail; and the lead is not given by hand.
   abbrev pub KeepsInCall : (old new : MirrorShown) (line : MirrorLine) (payload bytes : List ℕ) (called : MirrorEvent)
       → CallRule old new line payload bytes called → Type 0
-  KeepsInCall old new lines.Power payload bytes called call = CopiesLast old new
+  KeepsInCall old new lines.Power payload bytes called call = WakesWithCopies old new call.out call.cause
   KeepsInCall old new (lines.Write lba n) payload bytes called call = is_sector_among lba n at ≡ false
   KeepsInCall old new lines.Format payload bytes called call = IsRefusedFormat call.out
   KeepsInCall old new (lines.GiveLead to_a) payload bytes called call = ⊥
